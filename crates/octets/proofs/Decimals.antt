@@ -1,0 +1,207 @@
+-- A number in decimal: its digits say it, whatever follows them, and no other digits without a leading zero do.
+-- Assumes nothing.
+use Prim.Native.Nat.{ℕ, zero, suc, _+_, _*_, _-_, _/_, _%_, _≤_, _<_}
+use Prim.{absurd}
+use mathlib.Core.Path.{_≡_, refl, sym, ap, _∙_}
+use mathlib.Core.Bool.{Bool, true, false, cond}
+use mathlib.Core.List.{List, [], _∷_, _++_}
+use mathlib.Core.Option.{none, some}
+use native.Mathlib.Omega.{arith}
+use lib.Dec.{leb, ltb, eqb}
+use lib.ListN.{length, length-append}
+use borrow.Author.Tests.{ltb-true, ltb-false, lt-ltb, le-ltb, le-leb, leb-true, eqb-true, eqb-false}
+use Rattle.octets.specs.Kinds.{isDigit}
+use Rattle.octets.specs.Decimal.{numberFrom, numberOf, digitsIn, decimal, Says, plain, zero-before}
+use Rattle.octets.proofs.Bools.{and-left, and-right}
+
+-- what holds of the digits of n in front of s: of n below 10, and of n from those of n / 10 in front of one more digit
+pub digits :
+    (P : ℕ → List ℕ → List ℕ → Type 0)
+    → ((n : ℕ) (s : List ℕ) → n < 10 → P n s ((48 + n) ∷ s))
+    → ((n : ℕ) (s t : List ℕ) → 10 ≤ n → P (n / 10) ((48 + n % 10) ∷ s) t → P n s t)
+    → (k n : ℕ) (s : List ℕ) → n ≤ k → P n s (digitsIn k n s)
+unfolding digitsIn
+digits P one more zero n s h = one n s (omega arith)
+digits P one more (suc k) n s h = by (ltb n 10) refl (digits P one more k (n / 10) ((48 + n % 10) ∷ s))
+  where
+    by :
+        (t : Bool) → ltb n 10 ≡ t → (n / 10 ≤ k → P (n / 10) ((48 + n % 10) ∷ s) (digitsIn k (n / 10) ((48 + n % 10) ∷ s)))
+        → P n s (cond t ((48 + n) ∷ s) (digitsIn k (n / 10) ((48 + n % 10) ∷ s)))
+    by true e ih = one n s (ltb-true n 10 e)
+    by false e ih =
+        let b : 10 ≤ n = ltb-false n 10 e in
+        more n s _ b (ih (omega arith))
+
+-- the digits in front of s are the digits, and then s
+pub digits-append : (k n : ℕ) (s t : List ℕ) → digitsIn k n (s ++ t) ≡ digitsIn k n s ++ t
+unfolding digitsIn
+digits-append zero n s t = refl
+digits-append (suc k) n s t = by (ltb n 10) (digits-append k (n / 10) ((48 + n % 10) ∷ s) t)
+  where
+    by :
+        (q : Bool) → digitsIn k (n / 10) ((48 + n % 10) ∷ (s ++ t)) ≡ digitsIn k (n / 10) ((48 + n % 10) ∷ s) ++ t
+        → cond q ((48 + n) ∷ (s ++ t)) (digitsIn k (n / 10) ((48 + n % 10) ∷ (s ++ t))) ≡ cond q ((48 + n) ∷ s) (digitsIn k (n / 10) ((48 + n % 10) ∷ s)) ++ t
+    by true ih = refl
+    by false ih = ih
+
+-- fuel does not matter
+pub enough : (k k′ n : ℕ) (s : List ℕ) → n ≤ k → n ≤ k′ → digitsIn k n s ≡ digitsIn k′ n s
+unfolding digitsIn
+enough zero zero n s h h′ = refl
+enough zero (suc k′) n s h h′ = rw (lt-ltb n 10 (omega arith))
+enough (suc k) zero n s h h′ = rw (lt-ltb n 10 (omega arith))
+enough (suc k) (suc k′) n s h h′ = by (ltb n 10) refl (enough k k′ (n / 10) ((48 + n % 10) ∷ s))
+  where
+    by :
+        (t : Bool) → ltb n 10 ≡ t
+        → (n / 10 ≤ k → n / 10 ≤ k′ → digitsIn k (n / 10) ((48 + n % 10) ∷ s) ≡ digitsIn k′ (n / 10) ((48 + n % 10) ∷ s))
+        → cond t ((48 + n) ∷ s) (digitsIn k (n / 10) ((48 + n % 10) ∷ s)) ≡ cond t ((48 + n) ∷ s) (digitsIn k′ (n / 10) ((48 + n % 10) ∷ s))
+    by true e ih = refl
+    by false e ih =
+        let b : 10 ≤ n = ltb-false n 10 e in
+        ih (omega arith) (omega arith)
+
+one-digit : (k n : ℕ) (s : List ℕ) → n < 10 → digitsIn k n s ≡ (48 + n) ∷ s
+unfolding digitsIn
+one-digit zero n s h = refl
+one-digit (suc k) n s h = rw (lt-ltb n 10 h)
+
+last-digit : (k n : ℕ) (s : List ℕ) → 10 ≤ n → digitsIn (suc k) n s ≡ digitsIn k (n / 10) ((48 + n % 10) ∷ s)
+unfolding digitsIn
+last-digit k n s h = rw (le-ltb n 10 h)
+
+-- a digit b after the digits of v, that is not 0: the digits of v * 10 + b
+pub one-digit-more : (v b : ℕ) (s : List ℕ) → 0 < v → 48 ≤ b → b ≤ 57 → digitsIn v v (b ∷ s) ≡ digitsIn (v * 10 + (b - 48)) (v * 10 + (b - 48)) s
+one-digit-more v b s h lo hi =
+    let m : ℕ = v * 10 + (b - 48) in
+    let q : (v * 10 + (b - 48)) / 10 ≡ v = omega arith in
+    let r : 48 + (v * 10 + (b - 48)) % 10 ≡ b = omega arith in
+    enough v (v * 10 + (b - 48)) v (b ∷ s) (omega arith) (omega arith)
+    ∙ sym (last-digit (v * 10 + (b - 48)) (v * 10 + (b - 48)) s (omega arith) ∙ rw (q, r))
+    ∙ enough (suc (v * 10 + (b - 48))) (v * 10 + (b - 48)) (v * 10 + (b - 48)) s (omega arith) (omega arith)
+
+only-zero : decimal 0 ≡ 48 ∷ []
+unfolding digitsIn
+only-zero = refl
+
+-- a first digit
+pub first-digit : (b : ℕ) (s : List ℕ) → 48 ≤ b → b ≤ 57 → digitsIn (b - 48) (b - 48) s ≡ b ∷ s
+first-digit b s lo hi =
+    let r : 48 + (b - 48) ≡ b = omega arith in
+    one-digit (b - 48) (b - 48) s (omega arith) ∙ rw r
+
+pub decimal-some : (n : ℕ) → 0 < length (decimal n)
+decimal-some n = digits (λ n s t. 0 < length t) (λ n s h. omega arith) (λ n s t h ih. ih) n n [] (omega arith)
+
+-- Numbers that digits say, leading zeros allowed.
+
+number-digit : (v d n : ℕ) (s : List ℕ) → d < 10 → v * 10 + d ≡ n → numberFrom v ((48 + d) ∷ s) ≡ numberFrom n s
+unfolding numberFrom isDigit
+number-digit v d n s h e =
+    let w : v * 10 + (48 + d - 48) ≡ n = omega arith in
+    rw (le-leb 48 (48 + d) (omega arith), le-leb (48 + d) 57 (omega arith), w)
+
+pub number-decimal : (n : ℕ) → numberFrom 0 (decimal n) ≡ some n
+unfolding numberFrom
+number-decimal n =
+    digits (λ n s t. numberFrom 0 t ≡ numberFrom n s)
+    (λ n s h. number-digit 0 n n s h (omega arith))
+    (λ n s t h ih. ih ∙ number-digit (n / 10) (n % 10) n s (omega arith) (omega arith))
+    n n [] (omega arith)
+
+pub number-some : (s : List ℕ) → 0 < length s → numberOf s ≡ numberFrom 0 s
+number-some [] h = absurd (omega arith)
+number-some (b ∷ s) h = refl
+
+pub number-empty : (s : List ℕ) → length s ≡ 0 → numberOf s ≡ none
+number-empty [] h = refl
+number-empty (b ∷ s) h = absurd (omega arith)
+
+says-number : {n : ℕ} {v : List ℕ} → Says n v → (0 < length v) × (numberFrom 0 v ≡ some n)
+unfolding numberFrom isDigit
+says-number {n} plain = (decimal-some n, number-decimal n)
+says-number (zero-before p) = (omega arith, says-number p .1)
+
+pub number-of-says : (n : ℕ) (v : List ℕ) → Says n v → numberOf v ≡ some n
+number-of-says n v p =
+    let r = says-number p in
+    number-some v (r .0) ∙ r .1
+
+record Digit (b : ℕ) (s : List ℕ) (v n : ℕ) : Type 0 where
+  low : 48 ≤ b
+  high : b ≤ 57
+  next : numberFrom (v * 10 + (b - 48)) s ≡ some n
+
+a-digit : (b v n : ℕ) (s : List ℕ) → numberFrom v (b ∷ s) ≡ some n → Digit b s v n
+unfolding numberFrom isDigit
+a-digit b v n s e = by (isDigit b) refl e
+  where
+    by : (t : Bool) → isDigit b ≡ t → cond t (numberFrom (v * 10 + (b - 48)) s) none ≡ some n → Digit b s v n
+    by true q f =
+        record {
+          low = leb-true 48 b (and-left (leb 48 b) (leb b 57) q);
+          high = leb-true b 57 (and-right (leb 48 b) (leb b 57) q);
+          next = f;
+        }
+    by false q f = absurd (let z : _≡_ {A = ℕ} 0 1 = cc in omega arith)
+
+no-digit : (v n : ℕ) → numberFrom v [] ≡ some n → v ≡ n
+unfolding numberFrom
+no-digit v n e = cc
+
+-- digits after a number that is not 0 are its decimal
+said-after : (s : List ℕ) (v n : ℕ) → 0 < v → numberFrom v s ≡ some n → digitsIn v v s ≡ decimal n
+said-after [] v n h e =
+    let z : v ≡ n = no-digit v n e in
+    rw z
+said-after (b ∷ s) v n h e =
+    let d = a-digit b v n s e in
+    one-digit-more v b s h (d .low) (d .high) ∙ said-after s (v * 10 + (b - 48)) n (omega arith) (d .next)
+
+-- digits b and s, where it is known what s says after a zero
+lead : (s : List ℕ) (b n : ℕ) → numberFrom 0 (b ∷ s) ≡ some n → (numberFrom 0 s ≡ some n → Says n (48 ∷ s)) → Says n (b ∷ s)
+lead s b n e ih = by (eqb b 48) refl
+  where
+    d : Digit b s 0 n
+    d = a-digit b 0 n s e
+
+    next : numberFrom (b - 48) s ≡ some n
+    next =
+        let z : 0 * 10 + (b - 48) ≡ b - 48 = omega arith in
+        rw z at (d .next)
+
+    by : (t : Bool) → eqb b 48 ≡ t → Says n (b ∷ s)
+    by true t =
+        let z : b ≡ 48 = eqb-true b 48 t in
+        rw z (ih (rw z at next))
+    by false t =
+        let low : 48 ≤ b = d .low in
+        let pos : 0 < b - 48 = omega (arith, eqb-false b 48 t) in
+        rw (sym (first-digit b s (d .low) (d .high)) ∙ said-after s (b - 48) n pos next) plain
+
+says-from : (s : List ℕ) (b n : ℕ) → numberFrom 0 (b ∷ s) ≡ some n → Says n (b ∷ s)
+says-from [] b n e =
+    lead [] b n e
+    (λ f.
+    let z : 0 ≡ n = no-digit 0 n f in
+    rw (← z, ← only-zero) plain)
+says-from (c ∷ s) b n e = lead (c ∷ s) b n e (λ f. zero-before (says-from s c n f))
+
+pub says-of-number : (n : ℕ) (v : List ℕ) → numberOf v ≡ some n → Says n v
+says-of-number n [] e = absurd (let z : _≡_ {A = ℕ} 0 1 = cc in omega arith)
+says-of-number n (b ∷ v) e = says-from v b n e
+
+-- The decimal of a number from that of its tenth.
+
+pub decimal-one : (n : ℕ) → n < 10 → decimal n ≡ (48 + n) ∷ []
+decimal-one n h = one-digit n n [] h
+
+pub decimal-more : (n : ℕ) → 10 ≤ n → decimal n ≡ decimal (n / 10) ++ (48 + n % 10) ∷ []
+decimal-more n h =
+    enough n (suc n) n [] (omega arith) (omega arith)
+    ∙ last-digit n n [] h
+    ∙ enough n (n / 10) (n / 10) ((48 + n % 10) ∷ []) (omega arith) (omega arith)
+    ∙ digits-append (n / 10) (n / 10) [] ((48 + n % 10) ∷ [])
+
+pub decimal-longer : (n : ℕ) → 10 ≤ n → length (decimal n) ≡ length (decimal (n / 10)) + 1
+decimal-longer n h = ap length (decimal-more n h) ∙ length-append (decimal (n / 10)) ((48 + n % 10) ∷ [])

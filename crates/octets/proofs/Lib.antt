@@ -1,0 +1,11 @@
+pub mod Lists
+pub mod Bools
+pub mod Tests
+pub mod Outcomes
+pub mod Table
+pub mod KindTable
+pub mod Scans
+pub mod Compares
+pub mod Copies
+pub mod Decimals
+pub mod DecimalLoops

@@ -1,0 +1,36 @@
+-- Laws of runs, for loops that go byte by byte and for lists that are parted at a byte.
+-- Assumes nothing.
+use mathlib.Core.Path.{_≡_, refl, ap, _∙_}
+use mathlib.Core.Bool.{Bool, true, false, cond}
+use mathlib.Core.List.{List, [], _∷_}
+use Prim.Native.Nat.{ℕ, suc, _+_, _≤_, _<_}
+use native.Mathlib.Omega.{arith}
+use lib.ListN.{length, drop, getD, length-drop, drop-of-length-le}
+use Rattle.octets.specs.Scan.{run}
+use Rattle.octets.proofs.Lists.{next}
+
+module _ (p : ℕ → Bool) (s : List ℕ) (i : ℕ) where
+  pub run-stop : i < length s → p (getD s i 0) ≡ false → run p (drop i s) ≡ 0
+  unfolding run
+  run-stop h e = ap (run p) (next s i h) ∙ simp e
+
+  pub run-more : i < length s → p (getD s i 0) ≡ true → run p (drop i s) ≡ suc (run p (drop (i + 1) s))
+  unfolding run
+  run-more h e = ap (run p) (next s i h) ∙ simp e
+
+  pub run-none : length s ≤ i → run p (drop i s) ≡ 0
+  unfolding run
+  run-none h = rw (drop-of-length-le s h)
+
+pub run-le : (p : ℕ → Bool) (s : List ℕ) → run p s ≤ length s
+unfolding run
+run-le p [] = omega arith
+run-le p (b ∷ s) = by (p b) (run-le p s)
+  where
+    by : (t : Bool) → run p s ≤ length s → cond t (suc (run p s)) 0 ≤ suc (length s)
+    by true h = omega arith
+    by false h = omega arith
+
+-- a run that begins within s ends within s
+pub run-within : (p : ℕ → Bool) (s : List ℕ) (i : ℕ) → i ≤ length s → i + run p (drop i s) ≤ length s
+run-within p s i h = omega (arith, run-le p (drop i s), length-drop i s)
