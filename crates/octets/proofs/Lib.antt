@@ -2,10 +2,12 @@ pub mod Lists
 pub mod Bools
 pub mod Tests
 pub mod Outcomes
+pub mod Alls
 pub mod Table
 pub mod KindTable
 pub mod Scans
 pub mod Compares
+pub mod Names
 pub mod Copies
 pub mod Decimals
 pub mod DecimalLoops

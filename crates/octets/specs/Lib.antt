@@ -4,5 +4,6 @@ pub mod Kinds
 pub mod KindTable
 pub mod Scan
 pub mod Compare
+pub mod Lists
 pub mod Decimal
 pub mod Copy

@@ -1,0 +1,48 @@
+-- What holds of each entry of a list, and equal lists that are parted at a byte or at a length.
+-- Assumes nothing.
+use Prim.Native.Nat.{ℕ}
+use mathlib.Core.Path.{_≡_, refl, sym, ap, _∙_}
+use mathlib.Core.Bool.{Bool, true, not, _&&_}
+use mathlib.Core.List.{List, [], _∷_, _++_, map}
+use lib.Dec.{eqb}
+use lib.ListN.{length, take, drop}
+use lib.Seq.{take-append-seam, drop-append-seam}
+use borrow.Author.Tests.{eqb-false, not-true}
+use Rattle.octets.specs.Lists.{All, no-more, _&_, Without, NoNul}
+use Rattle.octets.proofs.Bools.{and-left, and-right}
+
+module _ {A : Type 0} {P : A → Type 0} where
+  pub all-append : {l k : List A} → All P l → All P k → All P (l ++ k)
+  all-append no-more q = q
+  all-append (p & ps) q = p & all-append ps q
+
+  pub all-implies : {Q : A → Type 0} {l : List A} → ((a : A) → P a → Q a) → All P l → All Q l
+  all-implies g no-more = no-more
+  all-implies g (_&_ {a} p ps) = g a p & all-implies g ps
+
+  pub all-map : {B : Type 0} {Q : B → Type 0} {l : List A} (f : A → B) → ((a : A) → P a → Q (f a)) → All P l → All Q (map f l)
+  all-map f g no-more = no-more
+  all-map f g (_&_ {a} p ps) = g a p & all-map f g ps
+
+-- of a text, by computation
+abbrev pub hasNoNul : List ℕ → Bool
+hasNoNul [] = true
+hasNoNul (b ∷ s) = not (eqb b 0) && hasNoNul s
+
+pub no-nul : (s : List ℕ) → hasNoNul s ≡ true → NoNul s
+no-nul [] t = no-more
+no-nul (b ∷ s) t = eqb-false b 0 (not-true _ (and-left _ (hasNoNul s) t)) & (no-nul s (and-right (not (eqb b 0)) _ t))
+
+-- bytes before the first x
+pub cut-first : (x : ℕ) (a b s t : List ℕ) → Without x a → Without x b → a ++ x ∷ s ≡ b ++ x ∷ t → (a ≡ b) × (s ≡ t)
+cut-first x [] [] s t p q e = (refl, cc)
+cut-first x [] (y ∷ b) s t p (n & q) e = absurd (n (cc))
+cut-first x (y ∷ a) [] s t (n & p) q e = absurd (n (cc))
+cut-first x (y ∷ a) (z ∷ b) s t (n & p) (m & q) e =
+    let r = cut-first x a b s t p q (cc) in
+    let h : y ≡ z = cc in (cc (r .0), r .1)
+
+-- parts of equal length
+pub cut-length : {A : Type 0} (a b s t : List A) → length a ≡ length b → a ++ s ≡ b ++ t → (a ≡ b) × (s ≡ t)
+cut-length a b s t n e =
+    (sym (take-append-seam a s) ∙ ap (take (length a)) e ∙ rw n (take-append-seam b t), sym (drop-append-seam a s) ∙ ap (drop (length a)) e ∙ rw n (drop-append-seam b t))
