@@ -1,0 +1,2 @@
+pub mod Spool
+pub mod Claims
