@@ -9,9 +9,9 @@ use native.Mathlib.Omega.{arith}
 use lib.ListN.{length, take, drop, length-append, length-take}
 use lib.Seq.{take-append-le, take-append-add, drop-append-seam, take-append-seam}
 use lib.Dec.{eqb, leb}
-use borrow.Author.Tests.{eq-eqb, ne-eqb, le-leb, lt-leb, leb-true, leb-false, eqb-true, eqb-false}
-use Rattle.octets.specs.Outcome.{Outcome, refused, gives}
-use Rattle.framing.specs.Spool.{Reader, Requests, none, one, Spool, Ending, whole, cut, ended, before, afterRead, spoolIn, spoolOf, joined, wholeBefore, total}
+use borrow.Author.Tests.{eq-eqb, ne-eqb, leb-true, leb-false, eqb-true, eqb-false}
+use Rattle.octets.specs.Outcome.{gives}
+use Rattle.framing.specs.Spool.{Reader, Requests, none, one, Spool, whole, cut, ended, before, afterRead, spoolIn, spoolOf, joined, wholeBefore, total}
 use Rattle.framing.specs.Claims.{Frames, SpoolsEqual, SpoolCut}
 
 -- what the cut k leaves of the requests rs

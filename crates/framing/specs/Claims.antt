@@ -6,7 +6,7 @@ use mathlib.Core.Bool.{cond}
 use mathlib.Core.List.{List, _++_}
 use lib.ListN.{length, take}
 use lib.Dec.{eqb}
-use Rattle.octets.specs.Outcome.{Outcome, refused, gives}
+use Rattle.octets.specs.Outcome.{refused, gives}
 use Rattle.framing.specs.Spool.{Reader, Requests, joined, wholeBefore, total, spoolOf, whole, cut}
 
 -- the laws of a reader that frames: more bytes keep an answer, "cut: the bytes end before the request does" is 1, and a request has a byte or more

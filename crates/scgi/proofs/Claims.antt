@@ -1,0 +1,37 @@
+-- Each claim of specs/Claims.antt, proved. Crates above cite this file and no other of this folder.
+-- Assumes nothing.
+use Rattle.scgi.specs.Claims.{MoreBytesKeepAnswer, UsedWithin, CutGivesOne, SpoolsHold, AcceptsExactly, RequestOnce, WritesExactly, WriteThenRead, ReadThenWrite, NumbersHold}
+use Rattle.scgi.proofs.Reader as Reader
+use Rattle.scgi.proofs.Requests as Requests
+use Rattle.scgi.proofs.Writer as Writer
+use Rattle.scgi.proofs.Numbers as Numbers
+
+pub more-bytes-keep-answer : MoreBytesKeepAnswer
+more-bytes-keep-answer = Reader.more-bytes-keep-answer
+
+pub used-within : UsedWithin
+used-within = Reader.used-within
+
+pub cut-gives-one : CutGivesOne
+cut-gives-one = Reader.cut-gives-one
+
+pub spools-hold : SpoolsHold
+spools-hold = Reader.spools-hold
+
+pub accepts-exactly : AcceptsExactly
+accepts-exactly = Requests.accepts-exactly
+
+pub request-once : RequestOnce
+request-once = Requests.request-once
+
+pub writes-exactly : WritesExactly
+writes-exactly = Writer.writes-exactly
+
+pub write-then-read : WriteThenRead
+write-then-read = Writer.write-then-read
+
+pub read-then-write : ReadThenWrite
+read-then-write = Writer.read-then-write
+
+pub numbers-hold : NumbersHold
+numbers-hold = Numbers.numbers-hold

@@ -1,0 +1,9 @@
+pub mod Lengths
+pub mod Blocks
+pub mod Checks
+pub mod Reader
+pub mod Requests
+pub mod Writer
+pub mod Numbers
+pub mod Worked
+pub mod Claims

@@ -1,0 +1,96 @@
+-- Which numbers a chain of refusals can give.
+-- Assumes nothing.
+use Prim.Native.Nat.{ℕ, _+_, _*_, _-_}
+use mathlib.Core.Path.{_≡_, refl}
+use mathlib.Core.Bool.{Bool, true, false, cond, not, _&&_}
+use mathlib.Core.List.{List, [], _∷_}
+use mathlib.Core.Option.{Option, none, some}
+use lib.Dec.{eqb, leb, ltb}
+use lib.ListN.{length, getD, take, drop}
+use Rattle.octets.specs.Text.{bytes}
+use Rattle.octets.specs.Outcome.{Outcome, refused, gives, then, need, given}
+use Rattle.octets.specs.Kinds.{oneOf, isDigit}
+use Rattle.octets.specs.Compare.{sameBytes}
+use Rattle.octets.specs.Lists.{different}
+use Rattle.octets.specs.Decimal.{numberOf}
+use Rattle.scgi.specs.Block.{Header, names, headersOf}
+use Rattle.scgi.specs.Grammar.{scgi1}
+use Rattle.scgi.specs.Check.{statedBy, has, checkBlock}
+use Rattle.scgi.specs.Read.{NetLength, lengthFrom, readOf}
+use Rattle.scgi.specs.Write.{toWrite, writeOf}
+use Rattle.scgi.specs.Claims.{readNumbers, writeNumbers, NumbersHold}
+
+-- a refusal's number is one of ns
+pub data Refuses (ns : List ℕ) {A : Type 0} : Outcome A → Type 0 where
+  with-number : {n : ℕ} → oneOf ns n ≡ true → Refuses ns (refused n)
+  not-refused : {a : A} → Refuses ns (gives a)
+
+pub number-of : {ns : List ℕ} {A : Type 0} {o : Outcome A} (n : ℕ) → Refuses ns o → o ≡ refused n → oneOf ns n ≡ true
+number-of n (with-number h) e = cc
+number-of n not-refused e = cc
+
+module _ {ns : List ℕ} where
+  pub refuses-then : {A B : Type 0} {o : Outcome A} {f : A → Outcome B} → Refuses ns o → ((a : A) → Refuses ns (f a)) → Refuses ns (then o f)
+  refuses-then (with-number h) k = with-number h
+  refuses-then (not-refused {a}) k = k a
+
+  pub refuses-need : {A : Type 0} {o : Outcome A} (t : Bool) (n : ℕ) → oneOf ns n ≡ true → Refuses ns o → Refuses ns (need t n o)
+  refuses-need true n h k = k
+  refuses-need false n h k = with-number h
+
+  pub refuses-given : {A : Type 0} (o : Option A) (n : ℕ) → oneOf ns n ≡ true → Refuses ns (given o n)
+  refuses-given none n h = with-number h
+  refuses-given (some a) n h = not-refused
+
+  -- a block's checks, where 5 to 10 are among the numbers
+  module _ (five : oneOf ns 5 ≡ true) (six : oneOf ns 6 ≡ true) (seven : oneOf ns 7 ≡ true) (eight : oneOf ns 8 ≡ true) (nine : oneOf ns 9 ≡ true) (ten : oneOf ns 10 ≡ true) where
+    stated-numbers : (hs : List Header) → Refuses ns (statedBy hs)
+    stated-numbers [] = with-number eight
+    stated-numbers (h ∷ hs) = refuses-need (sameBytes (h .name) (bytes "CONTENT_LENGTH")) 8 eight (refuses-given (numberOf (h .value)) 8 eight)
+
+    check-numbers : (b : List ℕ) → Refuses ns (checkBlock b)
+    unfolding checkBlock
+    check-numbers b =
+        refuses-then (refuses-given (headersOf b) 5 five)
+        (λ hs. refuses-need (leb (length hs) 128) 6 six
+        (refuses-need (different (names hs)) 7 seven
+        (refuses-then (stated-numbers hs)
+        (λ n. refuses-need (leb n 1048576) 9 nine (refuses-need (has scgi1 hs) 10 ten not-refused)))))
+
+length-numbers : (s : List ℕ) (i v : ℕ) → Refuses readNumbers (lengthFrom i v s)
+unfolding lengthFrom
+length-numbers [] i v = with-number refl
+length-numbers (b ∷ s) i v = by (eqb b 58) (length-numbers s (i + 1) (v * 10 + (b - 48)))
+  where
+    by :
+        {rest : Outcome NetLength} (t : Bool) → Refuses readNumbers rest
+        → Refuses readNumbers
+        (cond t (need (ltb 0 i) 2 (gives (record { len = v; next = i + 1 })))
+        (need (isDigit b && not (ltb 0 i && eqb v 0)) 2 (need (leb (v * 10 + (b - 48)) 16384) 3 rest)))
+    by true ih = refuses-need (ltb 0 i) 2 refl not-refused
+    by false ih = refuses-need (isDigit b && not (ltb 0 i && eqb v 0)) 2 refl (refuses-need (leb (v * 10 + (b - 48)) 16384) 3 refl ih)
+
+read-numbers : (s : List ℕ) (n : ℕ) → readOf s ≡ refused n → oneOf readNumbers n ≡ true
+unfolding readOf
+read-numbers s n e =
+    number-of n
+    (refuses-then (length-numbers s 0 0)
+    (λ l. refuses-need (ltb (l .next + l .len) (length s)) 1 refl
+    (refuses-need (eqb (getD s (l .next + l .len) 0) 44) 4 refl
+    (refuses-then (check-numbers refl refl refl refl refl refl (take (l .len) (drop (l .next) s)))
+    (λ n. refuses-need (leb (l .next + l .len + 1 + n) (length s)) 1 refl not-refused)))))
+    e
+
+write-numbers : (block body : List ℕ) (room n : ℕ) → writeOf block body room ≡ refused n → oneOf writeNumbers n ≡ true
+unfolding writeOf toWrite
+write-numbers block body room n e =
+    number-of {ns = writeNumbers} n
+    (refuses-then
+    (refuses-need (leb (length block) 16384) 3 refl
+    (refuses-then (check-numbers refl refl refl refl refl refl block)
+    (λ n. refuses-need (eqb (length body) n) 23 refl not-refused)))
+    (λ w. refuses-need (leb (length w) room) 21 refl not-refused))
+    e
+
+pub numbers-hold : NumbersHold
+numbers-hold = record { reader = read-numbers; writer = write-numbers }

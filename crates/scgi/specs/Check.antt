@@ -1,0 +1,35 @@
+-- What is asked of a whole block, by the reader and by the writer.
+-- Assumes nothing.
+use Prim.Native.Nat.{ℕ}
+use mathlib.Core.Bool.{Bool, false, _&&_, _||_}
+use mathlib.Core.List.{List, [], _∷_}
+use lib.Dec.{leb}
+use lib.ListN.{length}
+use Rattle.octets.specs.Text.{bytes}
+use Rattle.octets.specs.Outcome.{Outcome, refused, gives, then, need, given}
+use Rattle.octets.specs.Compare.{sameBytes}
+use Rattle.octets.specs.Lists.{different}
+use Rattle.octets.specs.Decimal.{numberOf}
+use Rattle.scgi.specs.Block.{Header, names, headersOf}
+use Rattle.scgi.specs.Grammar.{scgi1}
+
+-- the body length that the first header states; 8: "first header is not CONTENT_LENGTH with one or more digits"
+abbrev pub statedBy : List Header → Outcome ℕ
+statedBy [] = refused 8
+statedBy (h ∷ hs) = need (sameBytes (h .name) (bytes "CONTENT_LENGTH")) 8 (given (numberOf (h .value)) 8)
+
+-- one of the headers is x, its name and its value; 10: "no header SCGI with value `1`"
+unfoldable pub has : Header → List Header → Bool
+has x [] = false
+has x (h ∷ hs) = (sameBytes (h .name) (x .name) && sameBytes (h .value) (x .value)) || has x hs
+
+-- "over the whole block 5, 6, 7, 8, 9, 10 in turn"; gives the stated body length. 5: "block malformed"; 6: "more than 128 headers"; 7: "two
+-- headers with equal names"; 9: "stated body length above 1,048,576"
+unfoldable pub checkBlock : List ℕ → Outcome ℕ
+checkBlock block =
+    then (given (headersOf block) 5) (λ hs.
+    need (leb (length hs) 128) 6
+    (need (different (names hs)) 7
+    (then (statedBy hs) (λ n.
+    need (leb n 1048576) 9
+    (need (has scgi1 hs) 10 (gives n))))))
