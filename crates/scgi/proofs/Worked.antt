@@ -138,7 +138,7 @@ pub header-limit :
     (checkBlock (printed (replicate 128 a)) ≡ refused 7)
     × (checkBlock (printed (replicate 129 a)) ≡ refused 6)
     × (checkBlock (printed (replicate 129 a) ++ bytes "A") ≡ refused 5)
-unfolding printed checkBlock fields paired different isIn sameBytes numberFrom isDigit has
+unfolding printed checkBlock fields paired different isIn sameBytes
 header-limit = (refl, refl, refl)
 
 -- any count of leading zeros
