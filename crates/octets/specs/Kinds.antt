@@ -48,6 +48,10 @@ isValue b = eqb b 9 || within 32 126 b || within 128 255 b
 unfoldable pub isScheme : ℕ → Bool
 isScheme b = isLetter b || isDigit b || oneOf (bytes "+-.") b
 
+-- "spaces and tabs"
+unfoldable pub isBlank : ℕ → Bool
+isBlank b = eqb b 32 || eqb b 9
+
 -- the written rule of each kind
 abbrev pub rule : Kind → ℕ → Bool
 rule Digit = isDigit

@@ -7,3 +7,4 @@ pub mod Compare
 pub mod Lists
 pub mod Decimal
 pub mod Copy
+pub mod Parts

@@ -14,7 +14,8 @@ use Rattle.octets.specs.Kinds.{isDigit}
 use Rattle.octets.specs.Compare.{sameBytes}
 use Rattle.octets.specs.Lists.{isIn, different}
 use Rattle.octets.specs.Decimal.{numberFrom, numberOf, digitsIn}
-use Rattle.scgi.specs.Block.{Header, printed, fields, paired}
+use Rattle.scgi.specs.Block.{Header, printed, paired}
+use Rattle.octets.specs.Parts.{parted}
 use Rattle.scgi.specs.Check.{has, checkBlock}
 use Rattle.scgi.specs.Read.{Places, lengthFrom, readOf}
 use Rattle.scgi.specs.Write.{toWrite, writeOf}
@@ -83,11 +84,11 @@ further =
     ∷ []
 
 pub all-right : map (λ c. readOf (barred (c .input))) cases ≡ map (λ c. c .answer) cases
-unfolding cases readOf lengthFrom checkBlock fields paired different isIn sameBytes numberFrom isDigit has
+unfolding cases readOf lengthFrom checkBlock parted paired different isIn sameBytes numberFrom isDigit has
 all-right = refl
 
 pub further-right : map (λ c. readOf (barred (c .input))) further ≡ map (λ c. c .answer) further
-unfolding further readOf lengthFrom checkBlock fields paired different isIn sameBytes numberFrom isDigit has
+unfolding further readOf lengthFrom checkBlock parted paired different isIn sameBytes numberFrom isDigit has
 further-right = refl
 
 -- The writer, in its order.
@@ -124,7 +125,7 @@ writings =
     ∷ []
 
 pub writings-right : map (λ c. writeOf (barred (c .block)) (bytes (c .body)) (c .room)) writings ≡ map (λ c. c .written) writings
-unfolding writings writeOf toWrite digitsIn checkBlock fields paired different isIn sameBytes numberFrom isDigit has
+unfolding writings writeOf toWrite digitsIn checkBlock parted paired different isIn sameBytes numberFrom isDigit has
 writings-right = refl
 
 -- The limits, on inputs that are too long to write out.
@@ -138,7 +139,7 @@ pub header-limit :
     (checkBlock (printed (replicate 128 a)) ≡ refused 7)
     × (checkBlock (printed (replicate 129 a)) ≡ refused 6)
     × (checkBlock (printed (replicate 129 a) ++ bytes "A") ≡ refused 5)
-unfolding printed checkBlock fields paired different isIn sameBytes
+unfolding printed checkBlock parted paired different isIn sameBytes
 header-limit = (refl, refl, refl)
 
 -- any count of leading zeros

@@ -4,8 +4,8 @@ use Prim.Native.Nat.{ℕ}
 use mathlib.Core.Bool.{cond}
 use mathlib.Core.List.{List, [], _∷_, _++_, map}
 use mathlib.Core.Option.{Option, none, some}
-use lib.Dec.{eqb}
 use Rattle.octets.specs.Lists.{isNil}
+use Rattle.octets.specs.Parts.{parted}
 
 -- "name, NUL, value, NUL"
 pub record Header : Type 0 where
@@ -21,25 +21,12 @@ unfoldable pub printed : List Header → List ℕ
 printed [] = []
 printed (h ∷ hs) = h .name ++ 0 ∷ (h .value ++ 0 ∷ printed hs)
 
--- what NULs part: the bytes before the first NUL, and those after each NUL up to the next
-pub record Fields : Type 0 where
-  pub first : List ℕ
-  pub others : List (List ℕ)
-
--- the fields of a list of bytes
-unfoldable pub fields : List ℕ → Fields
-fields [] = record { first = []; others = [] }
-fields (b ∷ s) =
-    cond (eqb b 0)
-    (record { first = []; others = fields s .first ∷ fields s .others })
-    (record { first = b ∷ fields s .first; others = fields s .others })
-
 -- a header before those that follow it, if they are headers
 abbrev pub with : Header → Option (List Header) → Option (List Header)
 with h none = none
 with h (some hs) = some (h ∷ hs)
 
--- fields taken two by two, nothing after the last NUL: "names are not empty, values may be"
+-- what NULs part, taken two by two, nothing after the last NUL: "names are not empty, values may be"
 unfoldable pub paired : List ℕ → List (List ℕ) → Option (List Header)
 paired f [] = cond (isNil f) (some []) none
 paired n (v ∷ []) = none
@@ -47,4 +34,4 @@ paired n (v ∷ (f ∷ fs)) = cond (isNil n) none (with (record { name = n; valu
 
 -- the headers of a block, or none where it is malformed: "A block is zero or more of: name, NUL, value, NUL"
 abbrev pub headersOf : List ℕ → Option (List Header)
-headersOf s = paired (fields s .first) (fields s .others)
+headersOf s = paired (parted 0 s .first) (parted 0 s .others)
