@@ -25,3 +25,13 @@ pub record Gave {A B : Type 0} (o : Outcome A) (f : A → Outcome B) (b : B) : T
 pub then-gives : {A B : Type 0} (o : Outcome A) (f : A → Outcome B) (b : B) → then o f ≡ gives b → Gave o f b
 then-gives (refused n) f b e = record { it = absurd (let z : _≡_ {A = ℕ} 0 1 = cc in omega arith); first = cc; next = cc }
 then-gives (gives a) f b e = record { it = a; first = refl; next = e }
+
+-- a chain in a chain is one chain
+pub then-then : {A B C : Type 0} (o : Outcome A) (f : A → Outcome B) (g : B → Outcome C) → then (then o f) g ≡ then o (λ a. then (f a) g)
+then-then (refused n) f g = refl
+then-then (gives a) f g = refl
+
+-- links that agree on every answer make equal chains
+pub then-same : {A B : Type 0} (o : Outcome A) (f g : A → Outcome B) → ((a : A) → f a ≡ g a) → then o f ≡ then o g
+then-same (refused n) f g h = refl
+then-same (gives a) f g h = h a

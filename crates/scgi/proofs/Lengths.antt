@@ -17,7 +17,7 @@ use Rattle.octets.specs.Decimal.{digitsIn, decimal}
 use Rattle.octets.proofs.Bools.{and-left, and-right}
 use Rattle.octets.proofs.Outcomes.{need-gives}
 use Rattle.octets.proofs.Decimals.{digits, digits-append, one-digit-more, first-digit, decimal-some}
-use Rattle.scgi.specs.Read.{NetLength, lengthStep, lengthFrom, lengthOf}
+use Rattle.scgi.specs.Netstring.{NetLength, lengthStep, lengthFrom, lengthOf}
 
 -- What is written is read.
 

@@ -1,5 +1,8 @@
 pub mod Lengths
 pub mod Blocks
+pub mod Walks
+pub mod Lookups
+pub mod Shorter
 pub mod Checks
 pub mod Reader
 pub mod Requests

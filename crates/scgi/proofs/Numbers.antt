@@ -16,7 +16,8 @@ use Rattle.octets.specs.Decimal.{numberOf}
 use Rattle.scgi.specs.Block.{Header, names, headersOf}
 use Rattle.scgi.specs.Grammar.{scgi1}
 use Rattle.scgi.specs.Check.{statedBy, has, checkBlock}
-use Rattle.scgi.specs.Read.{NetLength, lengthFrom, readOf}
+use Rattle.scgi.specs.Netstring.{NetLength, lengthFrom}
+use Rattle.scgi.specs.Read.{readOf}
 use Rattle.scgi.specs.Write.{toWrite, writeOf}
 use Rattle.scgi.specs.Claims.{readNumbers, writeNumbers, NumbersHold}
 

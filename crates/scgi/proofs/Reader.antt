@@ -15,7 +15,8 @@ use Rattle.octets.proofs.Outcomes.{need-gives, then-gives}
 use Rattle.framing.proofs.Spools.{spools-equal, spool-cut}
 use Rattle.framing.proofs.Keeps.{Keeps, was-cut, same, keeps-then, keeps-cond, keeps-end, kept, Steady, cut-one, steady-frames, still-leb, still-ltb}
 use Rattle.scgi.specs.Check.{checkBlock}
-use Rattle.scgi.specs.Read.{NetLength, lengthFrom, lengthOf, Places, placesAt, readOf, usedOf}
+use Rattle.scgi.specs.Netstring.{NetLength, lengthFrom, lengthOf}
+use Rattle.scgi.specs.Read.{Places, placesAt, readOf, usedOf}
 use Rattle.scgi.specs.Claims.{MoreBytesKeepAnswer, UsedWithin, CutGivesOne, SpoolsHold}
 
 keeps-length : (s t : List ℕ) (i v : ℕ) → Keeps (lengthFrom i v s) (lengthFrom i v (s ++ t))

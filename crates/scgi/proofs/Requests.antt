@@ -15,7 +15,8 @@ use Rattle.octets.specs.Decimal.{decimal}
 use Rattle.scgi.specs.Block.{Header, printed, headersOf}
 use Rattle.scgi.specs.Grammar.{netstring, encoded, IsRequest}
 use Rattle.scgi.specs.Check.{checkBlock}
-use Rattle.scgi.specs.Read.{NetLength, Places, placesAt, readOf, blockIn, bodyIn}
+use Rattle.scgi.specs.Netstring.{NetLength}
+use Rattle.scgi.specs.Read.{Places, placesAt, readOf, blockIn, bodyIn}
 use Rattle.scgi.specs.Claims.{placesOf, Accepted, AcceptsExactly, RequestOnce}
 use Rattle.scgi.proofs.Lengths.{lengthAt, read-decimal, written}
 use Rattle.scgi.proofs.Blocks.{read-printed}

@@ -17,7 +17,8 @@ use Rattle.octets.specs.Decimal.{numberFrom, numberOf, digitsIn}
 use Rattle.scgi.specs.Block.{Header, printed, paired}
 use Rattle.octets.specs.Parts.{parted}
 use Rattle.scgi.specs.Check.{has, checkBlock}
-use Rattle.scgi.specs.Read.{Places, lengthFrom, readOf}
+use Rattle.scgi.specs.Netstring.{lengthFrom}
+use Rattle.scgi.specs.Read.{Places, readOf}
 use Rattle.scgi.specs.Write.{toWrite, writeOf}
 
 -- | for NUL

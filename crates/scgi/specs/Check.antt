@@ -10,7 +10,7 @@ use Rattle.octets.specs.Outcome.{Outcome, refused, gives, then, need, given}
 use Rattle.octets.specs.Compare.{sameBytes}
 use Rattle.octets.specs.Lists.{different}
 use Rattle.octets.specs.Decimal.{numberOf}
-use Rattle.scgi.specs.Block.{Header, names, headersOf}
+use Rattle.scgi.specs.Block.{Header, names, parsed}
 use Rattle.scgi.specs.Grammar.{scgi1}
 
 -- the body length that the first header states; 8: "first header is not CONTENT_LENGTH with one or more digits"
@@ -27,7 +27,7 @@ has x (h ∷ hs) = (sameBytes (h .name) (x .name) && sameBytes (h .value) (x .va
 -- headers with equal names"; 9: "stated body length above 1,048,576"
 unfoldable pub checkBlock : List ℕ → Outcome ℕ
 checkBlock block =
-    then (given (headersOf block) 5) (λ hs.
+    then (parsed block) (λ hs.
     need (leb (length hs) 128) 6
     (need (different (names hs)) 7
     (then (statedBy hs) (λ n.

@@ -1,6 +1,9 @@
 pub mod Block
 pub mod Grammar
+pub mod Lookup
+pub mod Setting
 pub mod Check
+pub mod Netstring
 pub mod Read
 pub mod Write
 pub mod Claims

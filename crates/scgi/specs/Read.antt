@@ -1,35 +1,14 @@
 -- The reader of SCGI requests.
 -- Assumes nothing.
-use Prim.Native.Nat.{ℕ, _+_, _*_, _-_}
-use mathlib.Core.Bool.{cond, not, _&&_}
-use mathlib.Core.List.{List, [], _∷_}
+use Prim.Native.Nat.{ℕ, _+_}
+use mathlib.Core.List.{List}
 use lib.Dec.{eqb, leb, ltb}
 use lib.ListN.{length, getD, take, drop}
 use Rattle.octets.specs.Outcome.{Outcome, refused, gives, then, need}
-use Rattle.octets.specs.Kinds.{isDigit}
+use Rattle.scgi.specs.Netstring.{NetLength, lengthOf}
 use Rattle.scgi.specs.Check.{checkBlock}
-
--- a netstring's length, and the place after its colon
-pub record NetLength : Type 0 where
-  pub len : ℕ
-  pub next : ℕ
-
--- what a byte b says after i digits whose number is v, where rest is what the bytes after it say: "no digit before `:`, a byte that is no
--- digit, or a digit after a leading 0 gives 2; a number above 16,384 gives 3 as soon as its digits say so"
-abbrev pub lengthStep : ℕ → ℕ → ℕ → Outcome NetLength → Outcome NetLength
-lengthStep i v b rest =
-    cond (eqb b 58) (need (ltb 0 i) 2 (gives (record { len = v; next = i + 1 })))
-    (need (isDigit b && not (ltb 0 i && eqb v 0)) 2
-    (need (leb (v * 10 + (b - 48)) 16384) 3 rest))
-
--- what the bytes say after i digits whose number is v: "Length digits are read from the left and the first fault decides"
-unfoldable pub lengthFrom : ℕ → ℕ → List ℕ → Outcome NetLength
-lengthFrom i v [] = refused 1
-lengthFrom i v (b ∷ s) = lengthStep i v b (lengthFrom (i + 1) (v * 10 + (b - 48)) s)
-
--- what the bytes of an input say of its netstring's length
-abbrev pub lengthOf : List ℕ → Outcome NetLength
-lengthOf s = lengthFrom 0 0 s
+use Rattle.scgi.specs.declared.read.Reading.{Reading}
+use Rattle.scgi.specs.declared.read.Reading.the-variants.{Request, Refused}
 
 -- "the places of block and body and the number of bytes used"
 pub record Places : Type 0 where
@@ -38,6 +17,11 @@ pub record Places : Type 0 where
   pub bodyStart : ℕ
   pub bodyLength : ℕ
   pub used : ℕ
+
+-- what the code's answer says
+abbrev pub readingOutcome : Reading → Outcome Places
+readingOutcome (Request a b c d e) = gives (record { blockStart = a; blockLength = b; bodyStart = c; bodyLength = d; used = e })
+readingOutcome (Refused n) = refused n
 
 -- the block of the netstring l, its comma, and n bytes of body
 abbrev pub placesAt : NetLength → ℕ → Places

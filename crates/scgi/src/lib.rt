@@ -1,1 +1,6 @@
-// The reader and the writer of SCGI requests. So far their definitions and claims: the crate has no code yet.
+// SCGI requests: blocks of headers, looking names up, the reader, the writer.
+pub mod netstring; // the length digits of a netstring
+pub mod block; // from header to header of a block
+pub mod lookup; // the value of a name in a block
+pub mod setting; // the value of a name in the first of two blocks that has it
+pub mod read; // the reader of requests
