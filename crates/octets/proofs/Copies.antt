@@ -6,7 +6,7 @@ use Prim.Native.Nat.{ℕ, suc, _+_, _-_, _≤_, _<_}
 use native.Mathlib.Nat.{add-assoc, add-zero}
 use native.Mathlib.Numerals.{add-one}
 use native.Mathlib.Omega.{arith}
-use lib.ListN.{length, take, drop, set, getD, length-append, length-take, length-drop}
+use lib.ListN.{length, take, drop, set, getD, length-append, length-take, length-drop, take-append-drop}
 use lib.Seq.{take-at, drop-at, drop-drop, paste, take-length, set-split, take-set-le}
 use Rattle.octets.specs.Copy.{over, Wrote}
 
@@ -67,6 +67,22 @@ module _ (d : List ℕ) (at : ℕ) (p : List ℕ) (room : at + length p ≤ leng
   -- one piece after another is one piece
   pub over-over : (q : List ℕ) → over (over d at p) (at + length p) q ≡ over d at (p ++ q)
   over-over q = opened q ∙ rw (before, after (length q)) (closed q)
+
+-- nothing written
+pub over-nil : (d : List ℕ) (at : ℕ) → over d at [] ≡ d
+unfolding over
+over-nil d at = rw (add-zero at) (take-append-drop at d)
+
+-- two numbers stored, and the rest written behind them
+pub two-stored :
+    (d : List ℕ) (at x y : ℕ) (rest : List ℕ) → at + 2 + length rest ≤ length d
+    → over (set (set d at x) (at + 1) y) (at + 2) rest ≡ over d at (x ∷ (y ∷ rest))
+two-stored d at x y rest room =
+    let one : set d at x ≡ over d at (x ∷ []) = one-byte d at x (omega arith) in
+    let l : length (over d at (x ∷ [])) ≡ length d = length-over d at (x ∷ []) (omega arith) in
+    let two : set (over d at (x ∷ [])) (at + 1) y ≡ over d at (x ∷ (y ∷ [])) =
+        one-byte (over d at (x ∷ [])) (at + 1) y (omega arith) ∙ over-over d at (x ∷ []) (omega arith) (y ∷ []) in
+    rw (one, two) (over-over d at (x ∷ (y ∷ [])) (omega arith) rest)
 
 -- one write after another: what a row of writes has done
 pub and-then :

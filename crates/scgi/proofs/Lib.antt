@@ -3,6 +3,7 @@ pub mod Blocks
 pub mod Walks
 pub mod Lookups
 pub mod Shorter
+pub mod NamePlaces
 pub mod Checks
 pub mod Reader
 pub mod Requests

@@ -3,4 +3,5 @@ pub mod netstring; // the length digits of a netstring
 pub mod block; // from header to header of a block
 pub mod lookup; // the value of a name in a block
 pub mod setting; // the value of a name in the first of two blocks that has it
+pub mod names; // whether the names of a block differ
 pub mod read; // the reader of requests

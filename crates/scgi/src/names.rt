@@ -1,0 +1,82 @@
+// Whether the names of a block differ.
+ghost use mathlib.Core.Path.{_≡_};
+ghost use Prim.Native.Nat.{_+_, _-_, _*_, _≤_, _<_};
+ghost use lib.ListN.{length};
+ghost use Rattle.octets.specs.Outcome.{gives, then};
+ghost use Rattle.octets.specs.Lists.{isIn, different};
+ghost use Rattle.scgi.specs.Block.{parsed, countOf, names};
+ghost use Rattle.scgi.specs.Names.{NamesStored, nameAt, namesAt, Inside, AllInside};
+
+use crate::block::{header_at, HeaderPlace};
+use octets::compare::same;
+
+// Stores where each name of a block of n headers stands: two numbers a header, start and length.
+fn store_names(block: &[u8], n: usize, places: &mut [usize])
+    requires { ⌜ (countOf (now block) ≡ gives n) × (2 * n ≤ length (now places)) ⌝ }
+    ensures { λ r. ⌜ NamesStored (now (block .entry)) (now (places .entry)) (now (places .exit)) ⌝ }
+{
+    let mut i: usize = 0;
+    let mut k: usize = 0;
+    while i < block.len() {
+        let h = header_at(block, i);
+        let HeaderPlace::At { name_end, value_end } = h else {
+            return;
+        };
+        places[k] = i;
+        places[k + 1] = name_end - i;
+        k += 2;
+        i = value_end + 1;
+    }
+}
+
+// The name with the number k.
+fn stored_name<'a>(block: &'a [u8], places: &[usize], k: usize) -> &'a [u8]
+    requires { ⌜ (2 * k + 1 < length (now places)) × Inside (now block) (now places) k ⌝ }
+    ensures { λ r. ⌜ now r ≡ nameAt (now (block .entry)) (now (places .entry)) k ⌝ }
+{
+    let start = places[2 * k];
+    let len = places[2 * k + 1];
+    &block[start..start + len]
+}
+
+// Whether the name with the number k stands again among the later ones of n.
+fn repeated(block: &[u8], places: &[usize], k: usize, n: usize) -> bool
+    requires { ⌜ (k < n) × (2 * n ≤ length (now places)) × AllInside (now block) (now places) n ⌝ }
+    ensures { λ r. ⌜ r ≡ isIn (nameAt (now (block .entry)) (now (places .entry)) k) (namesAt (now (block .entry)) (now (places .entry)) (k + 1) (n - (k + 1))) ⌝ }
+{
+    let name = stored_name(block, places, k);
+    let mut j = k + 1;
+    while j < n {
+        let later = stored_name(block, places, j);
+        if same(name, later) {
+            return true;
+        }
+        j += 1;
+    }
+    false
+}
+
+// Whether n stored names differ from each other.
+fn all_differ(block: &[u8], places: &[usize], n: usize) -> bool
+    requires { ⌜ (2 * n ≤ length (now places)) × AllInside (now block) (now places) n ⌝ }
+    ensures { λ r. ⌜ r ≡ different (namesAt (now (block .entry)) (now (places .entry)) 0 n) ⌝ }
+{
+    let mut k: usize = 0;
+    while k < n {
+        if repeated(block, places, k, n) {
+            return false;
+        }
+        k += 1;
+    }
+    true
+}
+
+// Whether the names of a block of n headers differ: each pair is compared, by places that are found once.
+pub fn names_differ(block: &[u8], n: usize) -> bool
+    requires { ⌜ (countOf (now block) ≡ gives n) × (n ≤ 128) ⌝ }
+    ensures { λ r. ⌜ then (parsed (now (block .entry))) (λ hs. gives (different (names hs))) ≡ gives r ⌝ }
+{
+    let mut places = [0usize; 256];
+    store_names(block, n, &mut places);
+    all_differ(block, &places, n)
+}
