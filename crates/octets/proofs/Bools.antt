@@ -18,3 +18,7 @@ and-false false = refl
 pub or-true : (a : Bool) → a || true ≡ true
 or-true true = refl
 or-true false = refl
+
+pub or-false : (a : Bool) → a || false ≡ a
+or-false true = refl
+or-false false = refl

@@ -81,7 +81,7 @@ two-stored d at x y rest room =
     let one : set d at x ≡ over d at (x ∷ []) = one-byte d at x (omega arith) in
     let l : length (over d at (x ∷ [])) ≡ length d = length-over d at (x ∷ []) (omega arith) in
     let two : set (over d at (x ∷ [])) (at + 1) y ≡ over d at (x ∷ (y ∷ [])) =
-        one-byte (over d at (x ∷ [])) (at + 1) y (omega arith) ∙ over-over d at (x ∷ []) (omega arith) (y ∷ []) in
+    one-byte (over d at (x ∷ [])) (at + 1) y (omega arith) ∙ over-over d at (x ∷ []) (omega arith) (y ∷ []) in
     rw (one, two) (over-over d at (x ∷ (y ∷ [])) (omega arith) rest)
 
 -- one write after another: what a row of writes has done

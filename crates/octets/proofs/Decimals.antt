@@ -205,3 +205,9 @@ decimal-more n h =
 
 pub decimal-longer : (n : ℕ) → 10 ≤ n → length (decimal n) ≡ length (decimal (n / 10)) + 1
 decimal-longer n h = ap length (decimal-more n h) ∙ length-append (decimal (n / 10)) ((48 + n % 10) ∷ [])
+
+-- a bound on the count of digits, enough for sums
+pub decimal-short : (n : ℕ) → length (decimal n) ≤ n + 1
+decimal-short n =
+    let h = digits (λ n s t. length t ≤ n + 1 + length s) (λ n s h. omega arith) (λ n s t h ih. omega arith) n n [] (omega arith) in
+    omega (arith, h)

@@ -1,11 +1,14 @@
 -- The headers of a block are exactly those that it was printed from.
 -- Assumes nothing.
-use Prim.Native.Nat.{ℕ}
+use Prim.Native.Nat.{ℕ, _+_}
 use Prim.{absurd}
-use mathlib.Core.Path.{_≡_, refl, ap, _∙_}
+use mathlib.Core.Path.{_≡_, refl, sym, ap, _∙_}
 use mathlib.Core.List.{List, [], _∷_, _++_}
 use mathlib.Core.Option.{Option, none, some}
+use native.Mathlib.Nat.{add-assoc}
 use native.Mathlib.Omega.{arith}
+use lib.ListN.{length, drop}
+use lib.Seq.{drop-drop, drop-append-add}
 use Rattle.octets.specs.Lists.{All, no-more, _&_, NoNul}
 use Rattle.octets.specs.Parts.{parted}
 use Rattle.octets.proofs.Parting.{part-ended, joinedBy, parts-of}
@@ -56,3 +59,20 @@ printed-read s hs e =
     let p = parts-of 0 s in
     let r = print-paired (parted 0 s .first) (parted 0 s .others) hs (p .in-first) (p .in-others) e in
     record { bytes = r .bytes ∙ p .from; proper = r .proper }
+
+-- What stands behind a header's name and behind the header, where the headers are printed from i on.
+
+module _ (b : List ℕ) (i : ℕ) (h : Header) (hs : List Header) (e : drop i b ≡ h .name ++ 0 ∷ (h .value ++ 0 ∷ printed hs)) where
+  pub behind-name : drop (i + length (h .name) + 1) b ≡ h .value ++ 0 ∷ printed hs
+  behind-name =
+      rw (add-assoc i (length (h .name)) 1)
+      (sym (drop-drop (length (h .name) + 1) i b)
+      ∙ ap (drop (length (h .name) + 1)) e
+      ∙ drop-append-add (h .name) (0 ∷ (h .value ++ 0 ∷ printed hs)) 1)
+
+  pub behind-printed : drop (i + length (h .name) + 1 + length (h .value) + 1) b ≡ printed hs
+  behind-printed =
+      rw (add-assoc (i + length (h .name) + 1) (length (h .value)) 1)
+      (sym (drop-drop (length (h .value) + 1) (i + length (h .name) + 1) b)
+      ∙ ap (drop (length (h .value) + 1)) behind-name
+      ∙ drop-append-add (h .value) (0 ∷ printed hs) 1)

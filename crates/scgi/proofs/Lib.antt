@@ -4,10 +4,13 @@ pub mod Walks
 pub mod Lookups
 pub mod Shorter
 pub mod NamePlaces
+pub mod CheckSteps
 pub mod Checks
 pub mod Reader
 pub mod Requests
 pub mod Writer
+pub mod ReadSteps
+pub mod WriteSteps
 pub mod Numbers
 pub mod Worked
 pub mod Claims

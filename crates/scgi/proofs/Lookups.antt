@@ -3,20 +3,21 @@
 use Prim.Native.Nat.{ℕ, _+_, _-_, _≤_, _<_}
 use Prim.{absurd}
 use mathlib.Core.Path.{_≡_, refl, sym, ap, _∙_}
-use mathlib.Core.Bool.{Bool, true, false, false≢true}
+use mathlib.Core.Bool.{Bool, true, false, cond, false≢true}
 use mathlib.Core.List.{List, [], _∷_, _++_}
 use mathlib.Core.Option.{Option, none, some}
 use native.Mathlib.Omega.{arith}
 use lib.ListN.{length, take, drop, length-take, length-drop, length-append}
+use lib.Seq.{take-append-seam}
 use Rattle.octets.specs.Outcome.{Outcome, refused, gives, then, given}
 use Rattle.octets.specs.Compare.{sameBytes}
 use Rattle.octets.proofs.Outcomes.{then-gives, given-gives}
 use Rattle.scgi.specs.Block.{Header, printed, headersOf, parsed, isSome, wellFormed, countOf, headerIn, HeaderFound}
-use Rattle.scgi.specs.Lookup.{Part, placeIn, lookupOf}
+use Rattle.scgi.specs.Lookup.{Part, partIn, placeIn, valueIn, lookupOf}
 use Rattle.scgi.specs.Setting.{in-first, in-second, firstOf, settingOf}
 use Rattle.scgi.specs.declared.block.HeaderPlace.the-variants.{At}
-use Rattle.scgi.proofs.Blocks.{printed-read}
-use Rattle.scgi.proofs.Walks.{behind-header, none-behind}
+use Rattle.scgi.proofs.Blocks.{printed-read, behind-name, behind-printed}
+use Rattle.scgi.proofs.Walks.{behind-header, none-behind, counted}
 
 -- Well formed blocks.
 
@@ -40,8 +41,8 @@ well-parsed b hs e = by (headersOf b) e
 
 pub well-counted : (b : List ℕ) (n : ℕ) → countOf b ≡ gives n → wellFormed b ≡ true
 well-counted b n e =
-    let g = then-gives (parsed b) (λ hs. gives (length hs)) n e in
-    well-parsed b (g .it) (g .first)
+    let g = counted b n e in
+    well-parsed b (g .hs) (g .is)
 
 -- a refusal of the parse is every step's
 pub count-refused : {A : Type 0} (b : List ℕ) (n : ℕ) (f : List Header → Outcome A) → countOf b ≡ refused n → then (parsed b) f ≡ refused n
@@ -63,6 +64,14 @@ unfolding lookupOf
 start b name e =
     let p = well b e in
     record { hs = p .hs; rest = p .is; answer = rw (p .is) }
+
+pub found-or-absent : (b name : List ℕ) (n : ℕ) → wellFormed b ≡ true → lookupOf b name ≡ refused n → ⊥
+unfolding lookupOf
+found-or-absent b name n w e =
+    let p = well b w in
+    let q : gives (placeIn name 0 (p .hs)) ≡ refused n = rw (p .is) at e in
+    let z : _≡_ {A = ℕ} 0 1 = cc in
+    omega arith
 
 -- one header: its name ends at n and its value at v
 pub record Turn (b name : List ℕ) (i n v : ℕ) : Type 0 where
@@ -151,3 +160,29 @@ second-fits b c name p e =
     by (some r) q t = cc
     by none (some r) t = cc
     by none none t = cc
+
+-- The part at the place is the value.
+
+abbrev pub partOption : List ℕ → Option Part → Option (List ℕ)
+partOption b none = none
+partOption b (some p) = some (partIn b p)
+
+value-at : (name b : List ℕ) (hs : List Header) (i : ℕ) → drop i b ≡ printed hs → partOption b (placeIn name i hs) ≡ valueIn name hs
+unfolding placeIn valueIn printed
+value-at name b [] i e = refl
+value-at name b (h ∷ hs) i e = by (sameBytes (h .name) name) (value-at name b hs (i + length (h .name) + 1 + length (h .value) + 1) (behind-printed b i h hs e))
+  where
+    by :
+        (t : Bool) → partOption b (placeIn name (i + length (h .name) + 1 + length (h .value) + 1) hs) ≡ valueIn name hs
+        → partOption b (cond t (some (record { start = i + length (h .name) + 1; len = length (h .value) })) (placeIn name (i + length (h .name) + 1 + length (h .value) + 1) hs))
+        ≡ cond t (some (h .value)) (valueIn name hs)
+    by true ih = ap some (ap (take (length (h .value))) (behind-name b i h hs e) ∙ take-append-seam (h .value) (0 ∷ printed hs))
+    by false ih = ih
+
+-- the value among the headers, by the place
+pub value-found : (b name : List ℕ) (hs : List Header) (o : Option Part) → parsed b ≡ gives hs → lookupOf b name ≡ gives o → partOption b o ≡ valueIn name hs
+unfolding lookupOf
+value-found b name hs o p e =
+    let w : gives (placeIn name 0 hs) ≡ gives o = rw p at e in
+    let z : placeIn name 0 hs ≡ o = cc in
+    ap (partOption b) (sym z) ∙ value-at name b hs 0 (sym (printed-read b hs (given-gives (headersOf b) 5 hs p) .bytes))

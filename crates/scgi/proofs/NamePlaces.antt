@@ -8,19 +8,19 @@ use native.Mathlib.Nat.{add-zero, sub-zero}
 use native.Mathlib.Omega.{arith}
 use lib.Dec.{eqb}
 use lib.ListN.{length, take, drop, getD, set, length-append, length-drop, length-set, length-take}
-use lib.Seq.{drop-drop, drop-append-add, take-append-seam, getD-drop}
+use lib.Seq.{drop-drop, take-append-seam, getD-drop}
 use borrow.Author.Tests.{eqb-true, eqb-false}
 use Rattle.octets.specs.Outcome.{gives, then}
 use Rattle.octets.specs.Compare.{sameBytes}
 use Rattle.octets.specs.Lists.{isIn, different}
 use Rattle.octets.specs.Copy.{over}
-use Rattle.octets.proofs.Outcomes.{then-gives, given-gives}
+use Rattle.octets.proofs.Outcomes.{given-gives}
 use Rattle.octets.proofs.Copies.{over-nil, two-stored}
 use Rattle.scgi.specs.Block.{Header, names, printed, headersOf, parsed, countOf, headerIn, HeaderFound}
 use Rattle.scgi.specs.Names.{namePlaces, NamesStored, nameAt, namesAt, Inside, AllInside}
-use Rattle.scgi.specs.declared.block.HeaderPlace.the-variants.{At, Refused}
-use Rattle.scgi.proofs.Blocks.{printed-read}
-use Rattle.scgi.proofs.Walks.{behind-header, never-refused, none-behind}
+use Rattle.scgi.specs.declared.block.HeaderPlace.the-variants.{At}
+use Rattle.scgi.proofs.Blocks.{printed-read, behind-printed}
+use Rattle.scgi.proofs.Walks.{behind-header, none-behind, counted}
 
 -- Storing: a writer that has stored the numbers of the headers before i, k numbers in all.
 
@@ -37,14 +37,12 @@ pub record Storing (b before out : List ℕ) (i k : ℕ) : Type 0 where
 
 pub start : (b d : List ℕ) (n : ℕ) → countOf b ≡ gives n → 2 * n ≤ length d → Storing b d d 0 0
 start b d n e h =
-    let g = then-gives (parsed b) (λ hs. gives (length hs)) n e in
-    let q : gives (length (g .it)) ≡ gives n = g .next in
-    let l : length (g .it) ≡ n = cc in
+    let g = counted b n e in
     record {
-      hs = g .it;
-      rest = g .first;
-      room = omega arith;
-      stored = λ all p. let w : gives (g .it) ≡ gives all = sym (g .first) ∙ p in ap (λ (hs : List Header). over d 0 (namePlaces 0 hs)) (cc);
+      hs = g .hs;
+      rest = g .is;
+      room = omega (arith, g .count);
+      stored = λ all p. let w : gives (g .hs) ≡ gives all = sym (g .is) ∙ p in ap (λ (hs : List Header). over d 0 (namePlaces 0 hs)) (cc);
     }
 
 -- one header more
@@ -118,15 +116,6 @@ module _
   within : after i h ≤ length b
   within = omega (arith, sizes)
 
-  behind : drop (after i h) b ≡ printed hs
-  behind =
-      let z : i + (length (h .name) + 1 + (length (h .value) + 1)) ≡ after i h = omega arith in
-      sym (drop-drop (length (h .name) + 1 + (length (h .value) + 1)) i b ∙ ap (λ (x : ℕ). drop x b) z)
-      ∙ ap (drop (length (h .name) + 1 + (length (h .value) + 1))) e
-      ∙ sym (drop-drop (length (h .value) + 1) (length (h .name) + 1) (h .name ++ 0 ∷ (h .value ++ 0 ∷ printed hs)))
-      ∙ ap (drop (length (h .value) + 1)) (drop-append-add (h .name) (0 ∷ (h .value ++ 0 ∷ printed hs)) 1)
-      ∙ drop-append-add (h .value) (0 ∷ printed hs) 1
-
   numbers : drop (2 * (k + 1)) ps ≡ namePlaces (after i h) hs ++ t
   numbers =
       let z : 2 * k + 2 ≡ 2 * (k + 1) = omega arith in
@@ -151,7 +140,7 @@ unfolding namePlaces printed namesAt
 found-in [] b ps t i k l e d = record { are = refl; inside = λ j lo hi. absurd (omega arith) }
 found-in (h ∷ hs) b ps t i k l e d =
     one-found h hs b ps t i k l e d
-    (found-in hs b ps t (after i h) (k + 1) (within h hs b ps t i k l e d) (behind h hs b ps t i k l e d) (numbers h hs b ps t i k l e d))
+    (found-in hs b ps t (after i h) (k + 1) (within h hs b ps t i k l e d) (behind-printed b i h hs e) (numbers h hs b ps t i k l e d))
 
 -- of all names, from what was stored
 pub found : (b d ps : List ℕ) (hs : List Header) → parsed b ≡ gives hs → ps ≡ over d 0 (namePlaces 0 hs) → Found b ps 0 hs
@@ -204,11 +193,9 @@ pub record Stored (b ps : List ℕ) (n : ℕ) : Type 0 where
 
 pub stored-names : (b d ps : List ℕ) (n : ℕ) → countOf b ≡ gives n → NamesStored b d ps → Stored b ps n
 stored-names b d ps n e w =
-    let g = then-gives (parsed b) (λ hs. gives (length hs)) n e in
-    let q : gives (length (g .it)) ≡ gives n = g .next in
-    let l : length (g .it) ≡ n = cc in
-    let f = found b d ps (g .it) (g .first) (w (g .it) (g .first)) in
+    let g = counted b n e in
+    let f = found b d ps (g .hs) (g .is) (w (g .hs) (g .is)) in
     record {
-      inside = λ k h. f .inside k (omega arith) (omega arith);
-      answer = rw (g .first) (ap (λ (ns : List (List ℕ)). gives (different ns)) (sym (f .are) ∙ ap (namesAt b ps 0) l));
+      inside = λ k h. f .inside k (omega arith) (omega (arith, g .count));
+      answer = rw (g .is) (ap (λ (ns : List (List ℕ)). gives (different ns)) (sym (f .are) ∙ ap (namesAt b ps 0) (g .count)));
     }

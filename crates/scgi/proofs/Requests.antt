@@ -71,7 +71,7 @@ module _ (b body rest : List ℕ) where
   pub body-at : bodyIn (netstring b ++ body ++ rest) (placesBy (length b) (length body)) ≡ body
   body-at = rw spread (ap (take (length body)) (found .behind) ∙ take-append-seam body rest)
 
-netstring-length : (b : List ℕ) → length (netstring b) ≡ length (decimal (length b)) + 1 + length b + 1
+pub netstring-length : (b : List ℕ) → length (netstring b) ≡ length (decimal (length b)) + 1 + length b + 1
 netstring-length b = simp length-append (omega arith)
 
 pub request-length : (b body : List ℕ) → length (netstring b ++ body) ≡ placesBy (length b) (length body) .used

@@ -13,7 +13,7 @@ use Rattle.octets.specs.Scan.{run, other}
 use Rattle.octets.specs.Parts.{parted, before}
 use Rattle.octets.proofs.Outcomes.{then-then, then-gives}
 use Rattle.octets.proofs.Parting.{part-found, part-none}
-use Rattle.scgi.specs.Block.{Header, with, paired, headersOf, parsed, headerIn, HeaderFound}
+use Rattle.scgi.specs.Block.{Header, with, paired, headersOf, parsed, countOf, headerIn, HeaderFound}
 use Rattle.scgi.specs.declared.block.HeaderPlace.the-variants.{At, Refused}
 
 -- What a list that is not empty begins with: its first NUL stands at n, t is what follows, whose first NUL stands at v.
@@ -132,3 +132,15 @@ module _ (b : List ℕ) (i : ℕ) (hs : List Header) (r : parsed (drop i b) ≡ 
   none-behind h =
       let e : gives hs ≡ gives [] = sym r ∙ no-header b i h in
       cc
+
+-- the headers of a block that has n
+pub record Counted (b : List ℕ) (n : ℕ) : Type 0 where
+  pub hs : List Header
+  pub is : parsed b ≡ gives hs
+  pub count : length hs ≡ n
+
+pub counted : (b : List ℕ) (n : ℕ) → countOf b ≡ gives n → Counted b n
+counted b n e =
+    let g = then-gives (parsed b) (λ hs. gives (length hs)) n e in
+    let q : gives (length (g .it)) ≡ gives n = g .next in
+    record { hs = g .it; is = g .first; count = cc }

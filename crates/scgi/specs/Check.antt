@@ -1,6 +1,6 @@
 -- What is asked of a whole block, by the reader and by the writer.
 -- Assumes nothing.
-use Prim.Native.Nat.{ℕ}
+use Prim.Native.Nat.{ℕ, min}
 use mathlib.Core.Bool.{Bool, false, _&&_, _||_}
 use mathlib.Core.List.{List, [], _∷_}
 use lib.Dec.{leb}
@@ -9,9 +9,13 @@ use Rattle.octets.specs.Text.{bytes}
 use Rattle.octets.specs.Outcome.{Outcome, refused, gives, then, need, given}
 use Rattle.octets.specs.Compare.{sameBytes}
 use Rattle.octets.specs.Lists.{different}
-use Rattle.octets.specs.Decimal.{numberOf}
+use Rattle.octets.specs.Decimal.{numberOf, cap}
 use Rattle.scgi.specs.Block.{Header, names, parsed}
 use Rattle.scgi.specs.Grammar.{scgi1}
+use Rattle.scgi.specs.declared.check.Stated.{Stated}
+use Rattle.scgi.specs.declared.check.Stated.the-variants.{Length, Refused as StatedRefused}
+use Rattle.scgi.specs.declared.check.Checked.{Checked}
+use Rattle.scgi.specs.declared.check.Checked.the-variants.{Body, Refused}
 
 -- the body length that the first header states; 8: "first header is not CONTENT_LENGTH with one or more digits"
 abbrev pub statedBy : List Header → Outcome ℕ
@@ -33,3 +37,21 @@ checkBlock block =
     (then (statedBy hs) (λ n.
     need (leb n 1048576) 9
     (need (has scgi1 hs) 10 (gives n))))))
+
+-- For the steps of the code, each over the whole block.
+
+-- the stated body length, with 1,048,577 for all above 1,048,576
+abbrev pub statedIn : List ℕ → Outcome ℕ
+statedIn block = then (parsed block) (λ hs. then (statedBy hs) (λ n. gives (min n cap)))
+
+abbrev pub statedOutcome : Stated → Outcome ℕ
+statedOutcome (Length n) = gives n
+statedOutcome (StatedRefused n) = refused n
+
+abbrev pub hasScgi : List ℕ → Outcome Bool
+hasScgi block = then (parsed block) (λ hs. gives (has scgi1 hs))
+
+-- what the code's answer says
+abbrev pub checkedOutcome : Checked → Outcome ℕ
+checkedOutcome (Body n) = gives n
+checkedOutcome (Refused n) = refused n

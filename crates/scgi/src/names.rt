@@ -6,8 +6,8 @@ ghost use Rattle.octets.specs.Outcome.{gives, then};
 ghost use Rattle.octets.specs.Lists.{isIn, different};
 ghost use Rattle.scgi.specs.Block.{parsed, countOf, names};
 ghost use Rattle.scgi.specs.Names.{NamesStored, nameAt, namesAt, Inside, AllInside};
-
-use crate::block::{header_at, HeaderPlace};
+use crate::block::HeaderPlace;
+use crate::block::header_at;
 use octets::compare::same;
 
 // Stores where each name of a block of n headers stands: two numbers a header, start and length.
@@ -19,7 +19,11 @@ fn store_names(block: &[u8], n: usize, places: &mut [usize])
     let mut k: usize = 0;
     while i < block.len() {
         let h = header_at(block, i);
-        let HeaderPlace::At { name_end, value_end } = h else {
+        let HeaderPlace::At {
+            name_end,
+            value_end,
+        } = h
+        else {
             return;
         };
         places[k] = i;

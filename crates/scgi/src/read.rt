@@ -1,5 +1,10 @@
 // The reader of SCGI requests.
 ghost use mathlib.Core.Path.{_≡_};
+ghost use Rattle.scgi.specs.Read.{readingOutcome, readOf};
+use crate::check::Checked;
+use crate::check::check_block;
+use crate::netstring::Length;
+use crate::netstring::read_length;
 
 pub enum Reading {
     Request {
@@ -10,4 +15,42 @@ pub enum Reading {
         used: usize,
     },
     Refused(u8),
+}
+
+// The request at the start of s.
+pub fn read(s: &[u8]) -> Reading
+    ensures { λ r. ⌜ readingOutcome r ≡ readOf (now (s .entry)) ⌝ }
+{
+    let l = read_length(s);
+    let Length::Value { len, next } = l else {
+        let Length::Refused(k) = l else {
+            return Reading::Refused(0);
+        };
+        return Reading::Refused(k);
+    };
+    let comma = next + len;
+    if s.len() <= comma {
+        return Reading::Refused(1);
+    }
+    if s[comma] != b',' {
+        return Reading::Refused(4);
+    }
+    let c = check_block(&s[next..comma]);
+    let Checked::Body(n) = c else {
+        let Checked::Refused(k) = c else {
+            return Reading::Refused(0);
+        };
+        return Reading::Refused(k);
+    };
+    let used = comma + 1 + n;
+    if s.len() < used {
+        return Reading::Refused(1);
+    }
+    Reading::Request {
+        block_start: next,
+        block_len: len,
+        body_start: comma + 1,
+        body_len: n,
+        used,
+    }
 }

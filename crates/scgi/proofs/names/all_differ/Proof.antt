@@ -20,12 +20,12 @@ loop-holds : tie.Need-loop-holds Inv-loop μ-loop
 loop-holds c = (search needs, differ-start _ _ _)
 
 repeated-requires : tie.Need-repeated-requires Inv-loop μ-loop
-repeated-requires c κs = 
+repeated-requires c κs =
     let s = c .before .before .before .before in
     (c .loop-test .taken, s .pre .0, s .pre .1)
 
 returns : tie.Need-returns Inv-loop μ-loop
-returns c = 
+returns c =
     let l = c .before .before .before in
     sym (l .loop .inv .1 ∙ differ-next _ _ _ _ (c .before .before .loop-test .taken) ∙ rw (sym (c .before .repeated .ensures) ∙ c .if1 .taken))
 
@@ -36,9 +36,8 @@ loop-less : tie.Need-loop-less Inv-loop μ-loop
 loop-less c = omega arith
 
 loop-again : tie.Need-loop-again Inv-loop μ-loop
-loop-again c = 
-    let l = c .before .before .before in
-    (
+loop-again c =
+    let l = c .before .before .before in (
       omega arith,
       l .loop .inv .1 ∙ differ-next _ _ _ _ (c .before .before .loop-test .taken) ∙ rw (sym (c .before .repeated .ensures) ∙ c .if1 .left),
     )

@@ -20,7 +20,7 @@ all-differ-requires : tie.Need-all-differ-requires
 all-differ-requires c κs = (search needs, stored-names _ _ _ _ (c .before .before .before .before .before .pre .0) (c .before .before .store-names .ensures) .inside)
 
 returns : tie.Need-returns
-returns c = 
+returns c =
     let s = c .before .before .before in
     stored-names _ _ _ _ (s .before .before .before .pre .0) (s .store-names .ensures) .answer ∙ ap gives (sym (c .all-differ .ensures))
 

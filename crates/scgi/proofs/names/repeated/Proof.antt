@@ -36,7 +36,7 @@ loop-holds : tie.Need-loop-holds Inv-loop μ-loop
 loop-holds c = (search needs, search needs, refl)
 
 stored-name-requires-2 : tie.Need-stored-name-requires-2 Inv-loop μ-loop
-stored-name-requires-2 c κs = 
+stored-name-requires-2 c κs =
     let s = c .before .before .before .before .before in
     (omega (arith, s .pre .1), s .pre .2 _ (c .loop-test .taken))
 
@@ -44,7 +44,7 @@ same-requires : tie.Need-same-requires Inv-loop μ-loop
 same-requires c κs = search needs
 
 returns : tie.Need-returns Inv-loop μ-loop
-returns c = 
+returns c =
     let l = c .before .before .before .before in
     sym (l .loop .inv .2 ∙ in-next _ _ _ _ _ (c .before .before .before .loop-test .taken) ∙ rw (seen (c .before) ∙ c .if1 .taken))
 
@@ -55,9 +55,8 @@ loop-less : tie.Need-loop-less Inv-loop μ-loop
 loop-less c = omega arith
 
 loop-again : tie.Need-loop-again Inv-loop μ-loop
-loop-again c = 
-    let l = c .before .before .before .before in
-    (
+loop-again c =
+    let l = c .before .before .before .before in (
       omega arith,
       omega arith,
       l .loop .inv .2 ∙ in-next _ _ _ _ _ (c .before .before .before .loop-test .taken) ∙ rw (seen (c .before) ∙ c .if1 .left),

@@ -44,7 +44,7 @@ same-length : tie.Need-same-length Inv-loop μ-loop
 same-length c = search needs
 
 returns : tie.Need-returns Inv-loop μ-loop
-returns c = 
+returns c =
     let h = c .before .before in
     let s = h .before .before .loop .inv .2 in
     absurd (never-refused _ _ (s .hs) (s .rest) _ (rw (c .enum-told .given .1) at (h .header-at .ensures)))
@@ -77,7 +77,7 @@ loop-less : tie.Need-loop-less Inv-loop μ-loop
 loop-less c = omega (arith, header c .order)
 
 loop-again : tie.Need-loop-again Inv-loop μ-loop
-loop-again c = 
+loop-again c =
     let l = c .before .before .before .before .before in
     (omega (arith, header c .order), simp length-set (l .loop .inv .1), more (l .loop .inv .2) _ _ (header c))
 

@@ -41,7 +41,7 @@ part-result-end : tie.Need-part-result-end
 part-result-end c = search needs
 
 returns : tie.Need-returns
-returns c = 
+returns c =
     let a = c .before .before .before .args in
     part (a .block .now) (getD (a .places .now) (2 * a .k) 0) (getD (a .places .now) (2 * a .k + 1) 0)
 

@@ -1,0 +1,167 @@
+-- Laws of the steps of a block's check, for the code that makes them.
+-- Assumes nothing.
+use Prim.Native.Nat.{ℕ, min, _+_, _-_, _≤_, _<_}
+use mathlib.Core.Path.{_≡_, refl, sym, ap, _∙_}
+use mathlib.Core.Bool.{Bool, true, false, cond, _&&_, _||_}
+use mathlib.Core.List.{List, [], _∷_}
+use mathlib.Core.Option.{Option, none, some}
+use native.Mathlib.Nat.{sub-zero}
+use native.Mathlib.Omega.{arith}
+use lib.Dec.{leb}
+use lib.ListN.{length, take, drop}
+use borrow.Author.Tests.{le-leb, lt-leb}
+use Rattle.octets.specs.Text.{bytes}
+use Rattle.octets.specs.Outcome.{Outcome, refused, gives, then, need, given}
+use Rattle.octets.specs.Compare.{sameBytes}
+use Rattle.octets.specs.Lists.{All, _&_, different, Different, one-more}
+use Rattle.octets.specs.Decimal.{numberOf, cap, capped}
+use Rattle.octets.proofs.Bools.{or-false}
+use Rattle.octets.proofs.Compares.{same-true, same-false}
+use Rattle.octets.proofs.Names.{test-different}
+use Rattle.octets.proofs.Outcomes.{Gave, then-gives}
+use Rattle.scgi.specs.Block.{Header, names, parsed, wellFormed, headerIn, HeaderFound}
+use Rattle.scgi.specs.Grammar.{scgi1}
+use Rattle.scgi.specs.Lookup.{Part, valueIn, lookupOf}
+use Rattle.scgi.specs.Check.{statedBy, statedIn, has, hasScgi, checkBlock}
+use Rattle.scgi.specs.declared.block.HeaderPlace.the-variants.{At}
+use Rattle.scgi.proofs.Walks.{behind-header, none-behind}
+use Rattle.scgi.proofs.Lookups.{well, well-parsed, partOption, value-found}
+
+-- The stated length.
+
+capped-given : (o : Option ℕ) → then (given o 8) (λ n. gives (min n cap)) ≡ given (capped o) 8
+capped-given none = refl
+capped-given (some n) = refl
+
+need-capped : (t : Bool) (o : Option ℕ) → then (need t 8 (given o 8)) (λ n. gives (min n cap)) ≡ need t 8 (given (capped o) 8)
+need-capped true o = capped-given o
+need-capped false o = refl
+
+-- the length that a block with a first header states
+abbrev pub firstStates : List ℕ → ℕ → ℕ → Outcome ℕ
+firstStates b n v = need (sameBytes (take n b) (bytes "CONTENT_LENGTH")) 8 (given (capped (numberOf (take (v - (n + 1)) (drop (n + 1) b)))) 8)
+
+module _ (b : List ℕ) (w : wellFormed b ≡ true) where
+  pub states-none : length b ≡ 0 → statedIn b ≡ refused 8
+  states-none z =
+      let p = well b w in
+      let e : p .hs ≡ [] = none-behind b 0 (p .hs) (p .is) (omega arith) in
+      ap (λ (o : Outcome (List Header)). then o (λ hs. then (statedBy hs) (λ n. gives (min n cap)))) (p .is ∙ ap gives e)
+
+  pub states-first : (n v : ℕ) → HeaderFound b 0 (At n v) → statedIn b ≡ firstStates b n v
+  states-first n v h =
+      let p = well b w in
+      let g = behind-header b 0 (p .hs) (p .is) n v h in
+      ap (λ (o : Outcome (List Header)). then o (λ hs. then (statedBy hs) (λ n. gives (min n cap)))) (p .is ∙ ap gives (g .is))
+      ∙ need-capped (sameBytes (take (n - 0) b) (bytes "CONTENT_LENGTH")) (numberOf (take (v - (n + 1)) (drop (n + 1) b)))
+      ∙ rw (sub-zero n)
+
+-- The header SCGI.
+
+abbrev pub isValue : Option (List ℕ) → List ℕ → Bool
+isValue none v = false
+isValue (some w) v = sameBytes w v
+
+has-none : (x : Header) (hs : List Header) → All (λ m. x .name ≡ m → ⊥) (names hs) → has x hs ≡ false
+unfolding has
+has-none x [] p = refl
+has-none x (h ∷ hs) (q & p) = rw (same-false (h .name) (x .name) (λ e. q (sym e)), has-none x hs p)
+
+-- where names differ, a header is there if its name has its value
+has-value : (x : Header) (hs : List Header) → Different (names hs) → has x hs ≡ isValue (valueIn (x .name) hs) (x .value)
+unfolding has valueIn
+has-value x [] d = refl
+has-value x (h ∷ hs) (one-more p d) = by (sameBytes (h .name) (x .name)) refl (has-value x hs d)
+  where
+    by :
+        (t : Bool) → sameBytes (h .name) (x .name) ≡ t → has x hs ≡ isValue (valueIn (x .name) hs) (x .value)
+        → (t && sameBytes (h .value) (x .value)) || has x hs ≡ isValue (cond t (some (h .value)) (valueIn (x .name) hs)) (x .value)
+    by true q ih =
+        let z : h .name ≡ x .name = same-true (h .name) (x .name) q in
+        rw (has-none x hs (rw z at p)) (or-false (sameBytes (h .value) (x .value)))
+    by false q ih = ih
+
+-- the block's headers, no two names of which are equal
+record Differ (b : List ℕ) : Type 0 where
+  hs : List Header
+  is : parsed b ≡ gives hs
+  names-differ : Different (names hs)
+
+differ : (b : List ℕ) → then (parsed b) (λ hs. gives (different (names hs))) ≡ gives true → Differ b
+differ b e =
+    let g = then-gives (parsed b) (λ hs. gives (different (names hs))) true e in
+    let q : gives (different (names (g .it))) ≡ gives true = g .next in
+    record { hs = g .it; is = g .first; names-differ = test-different (names (g .it)) (cc) }
+
+module _ (b : List ℕ) (d : then (parsed b) (λ hs. gives (different (names hs))) ≡ gives true) where
+  pub differ-well : wellFormed b ≡ true
+  differ-well =
+      let p = differ b d in
+      well-parsed b (p .hs) (p .is)
+
+  -- what the place of SCGI's value says
+  pub scgi-at : (o : Option Part) → lookupOf b (bytes "SCGI") ≡ gives o → hasScgi b ≡ gives (isValue (partOption b o) (bytes "1"))
+  scgi-at o e =
+      let p = differ b d in
+      rw (p .is)
+      (ap gives (has-value scgi1 (p .hs) (p .names-differ) ∙ ap (λ (w : Option (List ℕ)). isValue w (bytes "1")) (sym (value-found b (bytes "SCGI") (p .hs) o (p .is) e))))
+
+-- The whole chain, step by step: hs are the block's headers.
+
+module _ (b : List ℕ) (hs : List Header) (p : parsed b ≡ gives hs) where
+  pub too-many : 128 < length hs → checkBlock b ≡ refused 6
+  unfolding checkBlock
+  too-many h = rw (p, lt-leb (length hs) 128 h)
+
+  module _ (few : length hs ≤ 128) where
+    pub equal-names : then (parsed b) (λ hs. gives (different (names hs))) ≡ gives false → checkBlock b ≡ refused 7
+    unfolding checkBlock
+    equal-names e =
+        let q : gives (different (names hs)) ≡ gives false = rw p at e in
+        let z : different (names hs) ≡ false = cc in
+        rw (p, le-leb (length hs) 128 few, z)
+
+    module _ (d : then (parsed b) (λ hs. gives (different (names hs))) ≡ gives true) where
+      -- what is left of the chain
+      left : checkBlock b ≡ then (statedBy hs) (λ n. need (leb n 1048576) 9 (need (has scgi1 hs) 10 (gives n)))
+      unfolding checkBlock
+      left =
+          let q : gives (different (names hs)) ≡ gives true = rw p at d in
+          let z : different (names hs) ≡ true = cc in
+          rw (p, le-leb (length hs) 128 few, z)
+
+      pub unstated : (k : ℕ) → statedIn b ≡ refused k → checkBlock b ≡ refused k
+      unstated k e = left ∙ by (statedBy hs) (rw p at e)
+        where
+          by : (o : Outcome ℕ) → then o (λ n. gives (min n cap)) ≡ refused k → then o (λ n. need (leb n 1048576) 9 (need (has scgi1 hs) 10 (gives n))) ≡ refused k
+          by (refused n) q = cc
+          by (gives n) q = cc
+
+      module _ (len : ℕ) (e : statedIn b ≡ gives len) where
+        -- the number that is stated
+        stated : Gave (statedBy hs) (λ n. gives (min n cap)) len
+        stated = then-gives (statedBy hs) (λ n. gives (min n cap)) len (rw p at e)
+
+        is-min : min (stated .it) cap ≡ len
+        is-min =
+            let q : gives (min (stated .it) cap) ≡ gives len = stated .next in
+            cc
+
+        pub too-long : 1048576 < len → checkBlock b ≡ refused 9
+        too-long h = left ∙ rw (stated .first, lt-leb (stated .it) 1048576 (omega (arith, is-min)))
+
+        module _ (small : len ≤ 1048576) where
+          is-it : stated .it ≡ len
+          is-it = omega (arith, is-min)
+
+          pub no-scgi : hasScgi b ≡ gives false → checkBlock b ≡ refused 10
+          no-scgi h =
+              let q : gives (has scgi1 hs) ≡ gives false = rw p at h in
+              let z : has scgi1 hs ≡ false = cc in
+              left ∙ rw (stated .first, is-it, le-leb len 1048576 small, z)
+
+          pub passes : hasScgi b ≡ gives true → checkBlock b ≡ gives len
+          passes h =
+              let q : gives (has scgi1 hs) ≡ gives true = rw p at h in
+              let z : has scgi1 hs ≡ true = cc in
+              left ∙ rw (stated .first, is-it, le-leb len 1048576 small, z)

@@ -1,0 +1,54 @@
+// The writer of SCGI requests.
+ghost use mathlib.Core.Path.{_≡_};
+ghost use mathlib.Core.List.{_++_};
+ghost use Prim.Native.Nat.{_+_, _≤_};
+ghost use lib.ListN.{length};
+ghost use Rattle.octets.specs.Copy.{Wrote};
+ghost use Rattle.scgi.specs.Grammar.{netstring};
+ghost use Rattle.scgi.specs.Write.{Written};
+use crate::check::Checked;
+use crate::check::check_block;
+use octets::copy::put;
+use octets::decimal;
+
+pub enum Writing {
+    // How many bytes were written.
+    Bytes(usize),
+    Refused(u8),
+}
+
+// Writes the block as netstring at the start of out, and gives the place after it.
+fn put_netstring(out: &mut [u8], block: &[u8]) -> usize
+    requires { ⌜ length (netstring (now block)) ≤ length (now out) ⌝ }
+    ensures { λ r. ⌜ Wrote (now (out .entry)) 0 (netstring (now (block .entry))) (now (out .exit)) r ⌝ }
+{
+    let a = decimal::write(out, 0, block.len() as u64);
+    let b = put(out, a, b":");
+    let c = put(out, b, block);
+    put(out, c, b",")
+}
+
+// Writes the request of a block and a body to the start of out.
+pub fn write(block: &[u8], body: &[u8], out: &mut [u8]) -> Writing
+    ensures { λ r. ⌜ Written (now (block .entry)) (now (body .entry)) (now (out .entry)) (now (out .exit)) r ⌝ }
+{
+    if 16384 < block.len() {
+        return Writing::Refused(3);
+    }
+    let c = check_block(block);
+    let Checked::Body(n) = c else {
+        let Checked::Refused(k) = c else {
+            return Writing::Refused(0);
+        };
+        return Writing::Refused(k);
+    };
+    if body.len() != n {
+        return Writing::Refused(23);
+    }
+    let size = decimal::digits(block.len() as u64) + 2 + block.len() + n;
+    if out.len() < size {
+        return Writing::Refused(21);
+    }
+    let at = put_netstring(out, block);
+    Writing::Bytes(put(out, at, body))
+}
