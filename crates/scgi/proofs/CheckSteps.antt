@@ -21,11 +21,11 @@ use Rattle.octets.proofs.Names.{test-different}
 use Rattle.octets.proofs.Outcomes.{Gave, then-gives}
 use Rattle.scgi.specs.Block.{Header, names, parsed, wellFormed, headerIn, HeaderFound}
 use Rattle.scgi.specs.Grammar.{scgi1}
-use Rattle.scgi.specs.Lookup.{Part, valueIn, lookupOf}
+use Rattle.scgi.specs.Lookup.{Part, partOption, valueIn, lookupOf}
 use Rattle.scgi.specs.Check.{statedBy, statedIn, has, hasScgi, checkBlock}
 use Rattle.scgi.specs.declared.block.HeaderPlace.the-variants.{At}
 use Rattle.scgi.proofs.Walks.{behind-header, none-behind}
-use Rattle.scgi.proofs.Lookups.{well, well-parsed, partOption, value-found}
+use Rattle.scgi.proofs.Lookups.{well, well-parsed, value-found}
 
 -- The stated length.
 

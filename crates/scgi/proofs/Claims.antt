@@ -1,9 +1,10 @@
 -- Each claim of specs/Claims.antt, proved. Crates above cite this file and no other of this folder.
 -- Assumes nothing.
-use Rattle.scgi.specs.Claims.{MoreBytesKeepAnswer, UsedWithin, CutGivesOne, SpoolsHold, AcceptsExactly, RequestOnce, WritesExactly, WriteThenRead, ReadThenWrite, NumbersHold}
+use Rattle.scgi.specs.Claims.{MoreBytesKeepAnswer, UsedWithin, CutGivesOne, SpoolsHold, AcceptsExactly, RequestOnce, WritesExactly, WriteThenRead, ReadThenWrite, LookupFindsValue, NumbersHold}
 use Rattle.scgi.proofs.Reader as Reader
 use Rattle.scgi.proofs.Requests as Requests
 use Rattle.scgi.proofs.Writer as Writer
+use Rattle.scgi.proofs.Lookups as Lookups
 use Rattle.scgi.proofs.Numbers as Numbers
 
 pub more-bytes-keep-answer : MoreBytesKeepAnswer
@@ -32,6 +33,9 @@ write-then-read = Writer.write-then-read
 
 pub read-then-write : ReadThenWrite
 read-then-write = Writer.read-then-write
+
+pub lookup-finds-value : LookupFindsValue
+lookup-finds-value = Lookups.value-found
 
 pub numbers-hold : NumbersHold
 numbers-hold = Numbers.numbers-hold

@@ -13,7 +13,8 @@ use Rattle.octets.specs.Outcome.{Outcome, refused, gives, then, given}
 use Rattle.octets.specs.Compare.{sameBytes}
 use Rattle.octets.proofs.Outcomes.{then-gives, given-gives}
 use Rattle.scgi.specs.Block.{Header, printed, headersOf, parsed, isSome, wellFormed, countOf, headerIn, HeaderFound}
-use Rattle.scgi.specs.Lookup.{Part, partIn, placeIn, valueIn, lookupOf}
+use Rattle.scgi.specs.Lookup.{Part, partOption, placeIn, valueIn, lookupOf}
+use Rattle.scgi.specs.Claims.{LookupFindsValue}
 use Rattle.scgi.specs.Setting.{in-first, in-second, firstOf, settingOf}
 use Rattle.scgi.specs.declared.block.HeaderPlace.the-variants.{At}
 use Rattle.scgi.proofs.Blocks.{printed-read, behind-name, behind-printed}
@@ -163,10 +164,6 @@ second-fits b c name p e =
 
 -- The part at the place is the value.
 
-abbrev pub partOption : List ℕ → Option Part → Option (List ℕ)
-partOption b none = none
-partOption b (some p) = some (partIn b p)
-
 value-at : (name b : List ℕ) (hs : List Header) (i : ℕ) → drop i b ≡ printed hs → partOption b (placeIn name i hs) ≡ valueIn name hs
 unfolding placeIn valueIn printed
 value-at name b [] i e = refl
@@ -180,7 +177,7 @@ value-at name b (h ∷ hs) i e = by (sameBytes (h .name) name) (value-at name b 
     by false ih = ih
 
 -- the value among the headers, by the place
-pub value-found : (b name : List ℕ) (hs : List Header) (o : Option Part) → parsed b ≡ gives hs → lookupOf b name ≡ gives o → partOption b o ≡ valueIn name hs
+pub value-found : LookupFindsValue
 unfolding lookupOf
 value-found b name hs o p e =
     let w : gives (placeIn name 0 hs) ≡ gives o = rw p at e in

@@ -5,14 +5,16 @@ use mathlib.Core.Path.{_≡_}
 use mathlib.Core.Bool.{true, cond}
 use mathlib.Core.Logic.{_↔_}
 use mathlib.Core.List.{List, [], _∷_, _++_}
+use mathlib.Core.Option.{Option}
 use lib.Dec.{leb}
 use lib.ListN.{length, take}
 use Rattle.octets.specs.Outcome.{refused, gives}
 use Rattle.octets.specs.Kinds.{oneOf}
 use Rattle.octets.specs.Decimal.{decimal}
 use Rattle.framing.specs.Claims.{Frames, SpoolsEqual, SpoolCut}
-use Rattle.scgi.specs.Block.{Header, printed}
+use Rattle.scgi.specs.Block.{Header, printed, parsed}
 use Rattle.scgi.specs.Grammar.{netstring, encoded, IsRequest}
+use Rattle.scgi.specs.Lookup.{Part, partOption, valueIn, lookupOf}
 use Rattle.scgi.specs.Read.{Places, readOf, usedOf, blockIn, bodyIn}
 use Rattle.scgi.specs.Write.{writeOf}
 
@@ -94,6 +96,13 @@ abbrev pub ReadThenWrite : Type 0
 ReadThenWrite =
     (s : List ℕ) (p : Places) (room : ℕ) → readOf s ≡ gives p
     → writeOf (blockIn s p) (bodyIn s p) room ≡ cond (leb (p .used) room) (gives (take (p .used) s)) (refused 21)
+
+-- "Looking up a name hands back the value as that part of the caller's block": the bytes at the place that is given are the value of the first
+-- header with that name, and there is a place exactly where there is such a header
+abbrev pub LookupFindsValue : Type 0
+LookupFindsValue =
+    (block name : List ℕ) (hs : List Header) (o : Option Part) → parsed block ≡ gives hs → lookupOf block name ≡ gives o
+    → partOption block o ≡ valueIn name hs
 
 -- the reader's numbers: 1, 2, 3, then 4, "and over the whole block 5, 6, 7, 8, 9, 10"; none is 0
 abbrev pub readNumbers : List ℕ

@@ -24,6 +24,11 @@ pub record Part : Type 0 where
 abbrev pub partIn : List ℕ → Part → List ℕ
 partIn b p = take (p .len) (drop (p .start) b)
 
+-- the bytes at a place, if there is one
+abbrev pub partOption : List ℕ → Option Part → Option (List ℕ)
+partOption b none = none
+partOption b (some p) = some (partIn b p)
+
 -- the place of that value in the block of the headers, which are printed from i on
 unfoldable pub placeIn : List ℕ → ℕ → List Header → Option Part
 placeIn name i [] = none

@@ -1,0 +1,12 @@
+// Runs the proved calls on the byte cases of the scope paper and of the SCGI text of 2008, and prints what each gives.
+// The file stdout holds what they must give.
+mod print; // words and numbers on standard output
+mod scgi_cases; // the reader, the writer and the lookups
+
+fn main() {
+    scgi_cases::reader();
+    scgi_cases::reader_order();
+    scgi_cases::writer();
+    scgi_cases::lookup();
+    scgi_cases::two_blocks();
+}

@@ -1,0 +1,168 @@
+// The SCGI reader, writer and lookups.
+use crate::print;
+use scgi::lookup::Place;
+use scgi::lookup::find;
+use scgi::read::Reading;
+use scgi::read::read;
+use scgi::setting::Where;
+use scgi::setting::find_setting;
+use scgi::write::Writing;
+use scgi::write::write;
+
+fn show_read(s: &[u8]) {
+    let r = read(s);
+    match r {
+        Reading::Request {
+            block_start,
+            block_len,
+            body_start,
+            body_len,
+            used,
+        } => {
+            print::word(b"request");
+            print::number(block_start);
+            print::number(block_len);
+            print::number(body_start);
+            print::number(body_len);
+            print::number(used);
+            print::end();
+        }
+        Reading::Refused(n) => print::refused(n),
+    }
+}
+
+// "Bytes to check against", and the examples of the SCGI text of 2008.
+pub fn reader() {
+    show_read(b"");
+    show_read(b"0");
+    show_read(b"05");
+    show_read(b":");
+    show_read(b"16385");
+    show_read(b"0:,");
+    show_read(b"0:x");
+    show_read(
+        b"70:CONTENT_LENGTH\027\0SCGI\01\0REQUEST_METHOD\0POST\0REQUEST_URI\0/deepthought\0,What is the answer to life?",
+    );
+    show_read(
+        b"70:CONTENT_LENGTH\027\0SCGI\01\0REQUEST_METHOD\0POST\0REQUEST_URI\0/deepthought\0,What is the answer to life",
+    );
+    show_read(
+        b"70:CONTENT_LENGTH\027\0SCGI\01\0REQUEST_METHOD\0POST\0REQUEST_URI\0/deepthought\0,What is the answer to life?x",
+    );
+    show_read(b"12:hello world!,");
+}
+
+// Which fault comes first.
+pub fn reader_order() {
+    show_read(b"016385");
+    show_read(b"16384x");
+    show_read(b"163840");
+    show_read(b"12,");
+    show_read(b"3:A\0b");
+    show_read(b"3:A\0b,");
+    show_read(b"3:A\0b;");
+    show_read(b"1:\0,");
+    show_read(b"24:CONTENT_LENGTH\00\0SCGI\01\0,");
+    show_read(b"24:CONTENT_LENGTH\00\0SCGI\02\0,");
+    show_read(b"24:SCGI\01\0CONTENT_LENGTH\00\0,");
+    show_read(b"24:CONTENT_LENGTH\0x\0SCGI\01\0,");
+    show_read(b"41:CONTENT_LENGTH\0x\0CONTENT_LENGTH\00\0SCGI\01\0,");
+    show_read(b"31:CONTENT_LENGTH\000000001\0SCGI\01\0,x");
+    show_read(b"30:CONTENT_LENGTH\01048576\0SCGI\01\0,");
+    show_read(b"30:CONTENT_LENGTH\01048577\0SCGI\01\0,");
+    show_read(b"43:CONTENT_LENGTH\018446744073709551616\0SCGI\01\0,");
+}
+
+// Writes into 110 bytes, and reads what was written.
+fn show_write(block: &[u8], body: &[u8]) {
+    let mut out = [120u8; 110];
+    let r = write(block, body, &mut out);
+    match r {
+        Writing::Bytes(n) => {
+            print::word(b"wrote");
+            print::number(n);
+            print::word(b", ");
+            show_read(&out);
+        }
+        Writing::Refused(n) => print::refused(n),
+    }
+}
+
+pub fn writer() {
+    show_write(
+        b"CONTENT_LENGTH\027\0SCGI\01\0REQUEST_METHOD\0POST\0REQUEST_URI\0/deepthought\0",
+        b"What is the answer to life?",
+    );
+    show_write(b"CONTENT_LENGTH\00\0SCGI\01\0", b"");
+    show_write(b"", b"");
+    show_write(b"A", b"");
+    show_write(b"A\01\0A\02\0", b"");
+    show_write(b"SCGI\01\0", b"");
+    show_write(b"CONTENT_LENGTH\09999999\0", b"");
+    show_write(b"CONTENT_LENGTH\00\0", b"x");
+    show_write(b"CONTENT_LENGTH\00\0SCGI\01\0", b"x");
+    show_write(
+        b"CONTENT_LENGTH\087\0SCGI\01\0",
+        b"012345678901234567890123456789012345678901234567890123456789012345678901234567890123456",
+    );
+}
+
+fn show_find(block: &[u8], name: &[u8]) {
+    let p = find(block, name);
+    match p {
+        Place::At { start, len } => {
+            print::word(b"at");
+            print::number(start);
+            print::number(len);
+            print::end();
+        }
+        Place::Absent => {
+            print::word(b"absent");
+            print::end();
+        }
+        Place::Refused(n) => print::refused(n),
+    }
+}
+
+pub fn lookup() {
+    show_find(b"A\01\0B\0\0A\02\0", b"A");
+    show_find(b"A\01\0B\0\0A\02\0", b"B");
+    show_find(b"A\01\0B\0\0A\02\0", b"C");
+    show_find(b"A\01\0B\0\0A\02\0", b"");
+    show_find(b"A\01\0B\0\0A\02\0", b"A\0");
+    show_find(b"", b"A");
+    show_find(b"A\01", b"A");
+    show_find(b"A\01\0\02\0", b"A");
+}
+
+fn show_setting(first: &[u8], second: &[u8], name: &[u8]) {
+    let w = find_setting(first, second, name);
+    match w {
+        Where::First { start, len } => {
+            print::word(b"first");
+            print::number(start);
+            print::number(len);
+            print::end();
+        }
+        Where::Second { start, len } => {
+            print::word(b"second");
+            print::number(start);
+            print::number(len);
+            print::end();
+        }
+        Where::Absent => {
+            print::word(b"absent");
+            print::end();
+        }
+        Where::Refused(n) => print::refused(n),
+    }
+}
+
+pub fn two_blocks() {
+    show_setting(b"A\01\0", b"A\022\0B\03\0", b"A");
+    show_setting(b"A\0\0", b"A\022\0B\03\0", b"A");
+    show_setting(b"A\01\0", b"A\022\0B\03\0", b"B");
+    show_setting(b"A\01\0", b"A\022\0B\03\0", b"C");
+    show_setting(b"A\01\0", b"B", b"A");
+    show_setting(b"A", b"B\03\0", b"B");
+}
