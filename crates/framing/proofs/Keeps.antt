@@ -91,10 +91,18 @@ module _ {A : Type 0} {read : List ℕ → Outcome A} {used : A → ℕ} (R : St
       let g = then-gives (read s) (λ a. gives (used a)) u e in
       rw (stays s t (g .it) (g .first)) (g .next)
 
+  frames-within : (s : List ℕ) (u : ℕ) → counted s ≡ gives u → (0 < u) × (u ≤ length s)
+  frames-within s u e =
+      let g = then-gives (read s) (λ a. gives (used a)) u e in
+      let q : gives (used (g .it)) ≡ gives u = g .next in
+      let z : used (g .it) ≡ u = cc in
+      let w = R .within s (g .it) (g .first) in
+      (omega (arith, w .0), omega (arith, w .1))
+
   pub steady-frames : Frames counted
   steady-frames =
       record {
         more = frames-more;
         short = λ s k e h. let w = whole s e in rw (cut-one s (w .a) k (w .reads) (omega (arith, w .all)));
-        some = λ s e. let w = whole s e in omega (arith, w .all, R .within s (w .a) (w .reads) .0);
+        within = frames-within;
       }

@@ -1,2 +1,3 @@
 pub mod Spools
 pub mod Keeps
+pub mod SpoolSteps

@@ -60,7 +60,7 @@ module _ (read : Reader) (F : Frames read) where
   whole-first (suc room) fuel k r rs e h w ih =
       rw (past k r (joined rs) h)
       (onward read (length r) fuel room k (r ++ take (k - length r) (joined rs)) (take (k - length r) (joined rs)) (answer (k - length r) rs)
-      (simp length-append (omega (arith, F .some r e)))
+      (simp length-append (omega (arith, F .within r (length r) e .0)))
       (F .more r (take (k - length r) (joined rs)) (length r) e)
       (drop-append-seam r (take (k - length r) (joined rs)))
       (ih room (omega arith))
@@ -78,7 +78,7 @@ module _ (read : Reader) (F : Frames read) where
           → spoolIn read (suc fuel) room (take k (r ++ joined rs)) ≡ answer k (r ∷ rs)
       by-test true t ih =
           let b : length r ≤ k = leb-true (length r) k t in
-          whole-first room fuel k r rs e b (rw t at w) (λ room′ w′. ih (k - length r) room′ (omega (arith, simp length-append at h)) w′ (omega (arith, F .some r e)))
+          whole-first room fuel k r rs e b (rw t at w) (λ room′ w′. ih (k - length r) room′ (omega (arith, simp length-append at h)) w′ (omega (arith, F .within r (length r) e .0)))
           ∙ rw t
       by-test false t ih = inside fuel room k r (joined rs) e (leb-false (length r) k t) ∙ rw t
 
@@ -91,8 +91,8 @@ module _ (read : Reader) (F : Frames read) where
   equal-in : (rs ss : List (List ℕ)) → Requests read rs → Requests read ss → joined rs ≡ joined ss → rs ≡ ss
   unfolding joined
   equal-in [] [] none none q = refl
-  equal-in [] (s ∷ ss) none (one d ds) q = absurd (omega (arith, F .some s d, simp length-append at (ap length q)))
-  equal-in (r ∷ rs) [] (one e es) none q = absurd (omega (arith, F .some r e, simp length-append at (ap length q)))
+  equal-in [] (s ∷ ss) none (one d ds) q = absurd (omega (arith, F .within s (length s) d .0, simp length-append at (ap length q)))
+  equal-in (r ∷ rs) [] (one e es) none q = absurd (omega (arith, F .within r (length r) e .0, simp length-append at (ap length q)))
   equal-in (r ∷ rs) (s ∷ ss) (one e es) (one d ds) q =
       let n : length r ≡ length s = same-length r s (joined rs) (joined ss) e d q in
       let first : r ≡ s = sym (take-append-seam r (joined rs)) ∙ ap (take (length r)) q ∙ rw n (take-append-seam s (joined ss)) in

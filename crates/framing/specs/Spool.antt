@@ -28,6 +28,10 @@ ended e = record { lengths = []; ending = e }
 abbrev pub before : ℕ → Spool → Spool
 before n s = record { lengths = n ∷ s .lengths; ending = s .ending }
 
+-- requests of the lengths ls before what follows them
+abbrev pub behind : List ℕ → Spool → Spool
+behind ls s = record { lengths = ls ++ s .lengths; ending = s .ending }
+
 -- a reader: how many bytes the request at the front has, or a refusal; "A request in a spool is exactly the bytes that the reader counts as used"
 abbrev pub Reader : Type 0
 Reader = List ℕ → Outcome ℕ

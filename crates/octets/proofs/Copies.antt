@@ -68,6 +68,12 @@ module _ (d : List ℕ) (at : ℕ) (p : List ℕ) (room : at + length p ≤ leng
   pub over-over : (q : List ℕ) → over (over d at p) (at + length p) q ≡ over d at (p ++ q)
   over-over q = opened q ∙ rw (before, after (length q)) (closed q)
 
+-- one number more, behind what is written
+pub store-last : (d : List ℕ) (at : ℕ) (p : List ℕ) (x : ℕ) → at + length p < length d → set (over d at p) (at + length p) x ≡ over d at (p ++ x ∷ [])
+store-last d at p x h =
+    let l : length (over d at p) ≡ length d = length-over d at p (omega arith) in
+    one-byte (over d at p) (at + length p) x (omega arith) ∙ over-over d at p (omega arith) (x ∷ [])
+
 -- nothing written
 pub over-nil : (d : List ℕ) (at : ℕ) → over d at [] ≡ d
 unfolding over

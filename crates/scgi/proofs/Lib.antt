@@ -11,6 +11,7 @@ pub mod Requests
 pub mod Writer
 pub mod ReadSteps
 pub mod WriteSteps
+pub mod SpoolWalks
 pub mod Numbers
 pub mod Worked
 pub mod Claims

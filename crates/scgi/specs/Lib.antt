@@ -7,4 +7,5 @@ pub mod Check
 pub mod Netstring
 pub mod Read
 pub mod Write
+pub mod Spool
 pub mod Claims

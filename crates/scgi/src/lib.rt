@@ -7,3 +7,4 @@ pub mod names; // whether the names of a block differ
 pub mod check; // what is asked of a whole block
 pub mod read; // the reader of requests
 pub mod write; // the writer of requests
+pub mod spool; // requests that stand end to end

@@ -1,0 +1,159 @@
+-- `scgi::spool::spool` meets its contract.
+-- Assumes nothing.
+use mathlib.Core.Path.{_≡_, refl, sym, ap, _∙_}
+use Prim.Native.Nat.{_+_, _-_, _≤_}
+use native.Mathlib.Omega.{arith}
+use lib.ListN.{length, drop, length-set}
+use borrow.Author.Needs.{needs}
+use Rattle.octets.proofs.Lists.{from}
+use Rattle.octets.specs.Outcome.{Outcome, gives, then}
+use Rattle.scgi.proofs.SpoolWalks.{Standing, start, none-left, refusal, within, used-some, no-room, stored-one}
+use Rattle.scgi.proofs.spool.spool.Statement.{statement}
+use Rattle.scgi.proofs.spool.spool.Tie as tie
+use Rattle.scgi.specs.Read.{Places, readOf, readingOutcome, usedOf}
+
+abbrev Inv-loop : tie.InvT-loop
+Inv-loop bytes lengths₀ i₀ n₀ lengths i n = (i ≤ length bytes) × (length lengths ≡ length lengths₀) × Standing bytes lengths₀ i n lengths
+
+abbrev μ-loop : tie.MeasureT-loop
+μ-loop bytes lengths₀ i₀ n₀ lengths i n = length bytes - i
+
+-- what the reader says of the bytes from i on
+says : (c : tie.After-read Inv-loop μ-loop) → (let l = c .before .before .before in readOf (drop (l .loop .i) (l .before .before .before .args .bytes .now)) ≡ readingOutcome (c .read .result))
+says c =
+    let l = c .before .before .before in
+    sym (c .read .ensures ∙ ap readOf (from (l .before .before .before .args .bytes .now) (l .loop .i)))
+
+counted : (o : Outcome Places) {p : Outcome Places} → o ≡ p → then o (λ q. gives (q .used)) ≡ then p (λ q. gives (q .used))
+counted o e = ap (λ (x : Outcome Places). then x (λ q. gives (q .used))) e
+
+-- the used count, where the pattern matched
+reads :
+    (c : tie.After-known-told Inv-loop μ-loop)
+    → (let l = c .before .before .before .before .before .before in usedOf (drop (l .loop .i) (l .before .before .before .args .bytes .now)) ≡ gives (c .before .r .given .0 .1 .1 .1 .1 .0))
+reads c = counted _ (says (c .before .before .before) ∙ ap readingOutcome (c .before .r .given .1))
+
+ends :
+    (c : tie.After-known-told Inv-loop μ-loop)
+    → (let l = c .before .before .before .before .before .before in l .loop .i + c .before .r .given .0 .1 .1 .1 .1 .0 ≤ length (l .before .before .before .args .bytes .now))
+ends c =
+    let t = c .before .before .before .before .before in
+    within (t .before .loop .inv .2) (t .loop-test .taken) _ (reads c)
+
+some : (c : tie.After-known-told Inv-loop μ-loop) → 1 ≤ c .before .r .given .0 .1 .1 .1 .1 .0
+some c =
+    let t = c .before .before .before .before .before in
+    used-some (t .before .loop .inv .2) (t .loop-test .taken) _ (reads c)
+
+loop-holds : tie.Need-loop-holds Inv-loop μ-loop
+loop-holds c = (search needs, refl, start _ _)
+
+sub-read : tie.Need-sub-read Inv-loop μ-loop
+sub-read c = search needs
+
+part-read-start : tie.Need-part-read-start Inv-loop μ-loop
+part-read-start c = search needs
+
+part-read-end : tie.Need-part-read-end Inv-loop μ-loop
+part-read-end c = search needs
+
+read-requires : tie.Need-read-requires Inv-loop μ-loop
+read-requires c κs = search needs
+
+enum-known-r : tie.Need-enum-known-r Inv-loop μ-loop
+enum-known-r c = search needs
+
+enum-known-r-2 : tie.Need-enum-known-r-2 Inv-loop μ-loop
+enum-known-r-2 c = search needs
+
+enum-known-r-3 : tie.Need-enum-known-r-3 Inv-loop μ-loop
+enum-known-r-3 c = search needs
+
+enum-told : tie.Need-enum-told Inv-loop μ-loop
+enum-told c = search needs
+
+same-length : tie.Need-same-length Inv-loop μ-loop
+same-length c = search needs
+
+returns : tie.Need-returns Inv-loop μ-loop
+returns c = search needs
+
+refusal-ending-requires : tie.Need-refusal-ending-requires Inv-loop μ-loop
+refusal-ending-requires c κs = search needs
+
+same-length-2 : tie.Need-same-length-2 Inv-loop μ-loop
+same-length-2 c = search needs
+
+returns-2 : tie.Need-returns-2 Inv-loop μ-loop
+returns-2 c = 
+    let t = c .before .before .before .before .before .before .before .before .before in
+    refusal (t .before .loop .inv .2) (t .loop-test .taken) _ _ (counted _ (says (c .before .before .before .before .before .before .before) ∙ ap readingOutcome (c .before .before .before .before .before .r2 .given .1 ∙ c .before .before .r3 .given .1))) (c .refusal-ending .ensures)
+
+same-length-3 : tie.Need-same-length-3 Inv-loop μ-loop
+same-length-3 c = search needs
+
+returns-3 : tie.Need-returns-3 Inv-loop μ-loop
+returns-3 c = 
+    let t = c .before .before .before .before .before .before in
+    no-room (t .before .loop .inv .2) (t .loop-test .taken) _ (reads (c .before)) (omega arith)
+
+mul-lengths : tie.Need-mul-lengths Inv-loop μ-loop
+mul-lengths c = search needs
+
+slice-write-lengths : tie.Need-slice-write-lengths Inv-loop μ-loop
+slice-write-lengths c = search needs
+
+add-n : tie.Need-add-n Inv-loop μ-loop
+add-n c = omega (arith, ends (c .before))
+
+add-i : tie.Need-add-i Inv-loop μ-loop
+add-i c = omega (arith, ends (c .before))
+
+loop-less : tie.Need-loop-less Inv-loop μ-loop
+loop-less c = omega (arith, ends (c .before), some (c .before))
+
+loop-again : tie.Need-loop-again Inv-loop μ-loop
+loop-again c = 
+    let t = c .before .before .before .before .before .before in
+    (
+      omega (arith, ends (c .before)),
+      simp length-set (t .before .loop .inv .1),
+      stored-one (t .before .loop .inv .2) (t .loop-test .taken) _ (reads (c .before)) (omega arith),
+    )
+
+same-length-4 : tie.Need-same-length-4 Inv-loop μ-loop
+same-length-4 c = search needs
+
+returns-4 : tie.Need-returns-4 Inv-loop μ-loop
+returns-4 c = none-left (c .before .loop .inv .2) (c .loop-test .left)
+
+pub spool-spec : {M : Type 1} → statement M
+spool-spec =
+    tie.close
+    (tie.spec
+    Inv-loop
+    μ-loop
+    loop-holds
+    sub-read
+    part-read-start
+    part-read-end
+    read-requires
+    enum-known-r
+    enum-known-r-2
+    enum-known-r-3
+    enum-told
+    same-length
+    returns
+    refusal-ending-requires
+    same-length-2
+    returns-2
+    same-length-3
+    returns-3
+    mul-lengths
+    slice-write-lengths
+    add-n
+    add-i
+    loop-less
+    loop-again
+    same-length-4
+    returns-4)

@@ -1,0 +1,80 @@
+// Requests that stand end to end.
+ghost use mathlib.Core.Path.{_≡_};
+ghost use mathlib.Core.Bool.{cond};
+ghost use lib.Dec.{eqb};
+ghost use Rattle.framing.specs.Spool.{cut, refusedBy};
+ghost use Rattle.scgi.specs.Spool.{endingOf, SpoolDone};
+
+use crate::read::{read, Reading};
+
+pub enum Ending {
+    Whole,
+    Cut,
+    Refused(u8),
+    Full,
+}
+
+pub struct Spooled {
+    // How many lengths are stored.
+    pub count: usize,
+    // The place after the requests whose lengths are stored.
+    pub next: usize,
+    pub ending: Ending,
+}
+
+// How a spool ends where the reader refuses.
+fn refusal_ending(k: u8) -> Ending
+    ensures { λ r. ⌜ endingOf r ≡ cond (eqb k 1) cut (refusedBy k) ⌝ }
+{
+    if k == 1 {
+        return Ending::Cut;
+    }
+    Ending::Refused(k)
+}
+
+// Stores the byte length of each request of a spool, from the front.
+pub fn spool(bytes: &[u8], lengths: &mut [u64]) -> Spooled
+    ensures { λ r. ⌜ SpoolDone (now (bytes .entry)) (now (lengths .entry)) (now (lengths .exit)) r ⌝ }
+{
+    let mut i: usize = 0;
+    let mut n: usize = 0;
+    while i < bytes.len() {
+        let r = read(&bytes[i..]);
+        let Reading::Request {
+            block_start: _,
+            block_len: _,
+            body_start: _,
+            body_len: _,
+            used,
+        } = r
+        else {
+            let Reading::Refused(k) = r else {
+                return Spooled {
+                    count: n,
+                    next: i,
+                    ending: Ending::Cut,
+                };
+            };
+            return Spooled {
+                count: n,
+                next: i,
+                ending: refusal_ending(k),
+            };
+        };
+        if lengths.len() <= n {
+            return Spooled {
+                count: n,
+                next: i,
+                ending: Ending::Full,
+            };
+        }
+        lengths[n] = used as u64;
+        n += 1;
+        i += used;
+    }
+    Spooled {
+        count: n,
+        next: i,
+        ending: Ending::Whole,
+    }
+}
