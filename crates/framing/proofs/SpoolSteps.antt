@@ -10,7 +10,7 @@ use native.Mathlib.Omega.{arith}
 use lib.Dec.{eqb}
 use lib.ListN.{length, drop, length-append, length-drop}
 use lib.Seq.{drop-append-le, drop-drop}
-use borrow.Author.Tests.{eq-eqb, ne-eqb}
+use borrow.Author.Tests.{ne-eqb, eqb-true}
 use Rattle.octets.specs.Outcome.{Outcome, refused, gives}
 use Rattle.framing.specs.Spool.{Reader, Spool, whole, cut, refusedBy, full, ended, before, behind, afterRead, spoolIn, spoolOf, total}
 use Rattle.framing.specs.Claims.{Frames, SpoolGoesOn}
@@ -107,3 +107,72 @@ module _ (read : Reader) (F : Frames read) where
 pub spool-goes-on : (read : Reader) → Frames read → SpoolGoesOn read
 unfolding spoolOf GoesOn
 spool-goes-on read F s t room more = goes-on-in read F (suc (length s)) s t room more (omega arith)
+
+-- What is left behind the requests that were found: bytes that the reader takes for a cut request, or none.
+pub record LeftOver (read : Reader) (s : List ℕ) (p : Spool) : Type 0 where
+  pub at-cut : p .ending ≡ cut → read (drop (total (p .lengths)) s) ≡ refused 1
+  pub at-whole : p .ending ≡ whole → drop (total (p .lengths)) s ≡ []
+
+module _ (read : Reader) (F : Frames read) where
+  one-passed : (s : List ℕ) (u : ℕ) (p : Spool) → LeftOver read (drop u s) p → LeftOver read s (before u p)
+  unfolding total
+  one-passed s u p r =
+      record {
+        at-cut = λ e. rw (← drop-drop (total (p .lengths)) u s) (r .at-cut e);
+        at-whole = λ e. rw (← drop-drop (total (p .lengths)) u s) (r .at-whole e);
+      }
+
+  left-in : (f : ℕ) (s : List ℕ) (room : ℕ) → length s < f → LeftOver read s (spoolIn read f room s)
+  unfolding spoolIn total
+  left-in zero s room h = absurd (omega arith)
+  left-in (suc f) [] room h = record { at-cut = λ e. cc; at-whole = λ e. refl }
+  left-in (suc f) (b ∷ s) room h = by (read (b ∷ s)) refl room (left-in f)
+    where
+      by :
+          (o : Outcome ℕ) → read (b ∷ s) ≡ o → (room : ℕ) → ((s : List ℕ) (room : ℕ) → length s < f → LeftOver read s (spoolIn read f room s))
+          → LeftOver read (b ∷ s) (afterRead o room (λ left u. spoolIn read f left (drop u (b ∷ s))))
+      by (refused n) e room ih = by-number (eqb n 1) refl
+        where
+          by-number : (q : Bool) → eqb n 1 ≡ q → LeftOver read (b ∷ s) (cond q (ended cut) (ended (refusedBy n)))
+          by-number true q = record { at-cut = λ _. e ∙ ap refused (eqb-true n 1 q); at-whole = λ w. cc }
+          by-number false q = record { at-cut = λ w. cc; at-whole = λ w. cc }
+      by (gives u) e zero ih = record { at-cut = λ w. cc; at-whole = λ w. cc }
+      by (gives u) e (suc room) ih =
+          let w = F .within (b ∷ s) u e in
+          let l : length (drop u (b ∷ s)) ≡ suc (length s) - u = length-drop u (b ∷ s) in
+          one-passed (b ∷ s) u (spoolIn read f room (drop u (b ∷ s))) (ih (drop u (b ∷ s)) room (omega (arith, w .0)))
+
+  pub left-over : (s : List ℕ) (room : ℕ) → LeftOver read s (spoolOf read room s)
+  unfolding spoolOf
+  left-over s room = left-in (suc (length s)) s room (omega arith)
+
+-- There are not more lengths than the list has room for, and not more bytes than there are.
+pub record Bounded (s : List ℕ) (room : ℕ) (p : Spool) : Type 0 where
+  pub few : length (p .lengths) ≤ room
+  pub inside : total (p .lengths) ≤ length s
+
+module _ (read : Reader) (F : Frames read) where
+  bounded-in : (f : ℕ) (s : List ℕ) (room : ℕ) → length s < f → Bounded s room (spoolIn read f room s)
+  unfolding spoolIn total
+  bounded-in zero s room h = absurd (omega arith)
+  bounded-in (suc f) [] room h = omega arith
+  bounded-in (suc f) (b ∷ s) room h = by (read (b ∷ s)) refl room (bounded-in f)
+    where
+      by :
+          (o : Outcome ℕ) → read (b ∷ s) ≡ o → (room : ℕ) → ((s : List ℕ) (room : ℕ) → length s < f → Bounded s room (spoolIn read f room s))
+          → Bounded (b ∷ s) room (afterRead o room (λ left u. spoolIn read f left (drop u (b ∷ s))))
+      by (refused n) e room ih = by-number (eqb n 1)
+        where
+          by-number : (q : Bool) → Bounded (b ∷ s) room (cond q (ended cut) (ended (refusedBy n)))
+          by-number true = omega arith
+          by-number false = omega arith
+      by (gives u) e zero ih = omega arith
+      by (gives u) e (suc room) ih =
+          let w = F .within (b ∷ s) u e in
+          let l : length (drop u (b ∷ s)) ≡ suc (length s) - u = length-drop u (b ∷ s) in
+          let r = ih (drop u (b ∷ s)) room (omega (arith, w .0)) in
+          record { few = omega (arith, r .few); inside = omega (arith, r .inside, w .1) }
+
+  pub bounded : (s : List ℕ) (room : ℕ) → Bounded s room (spoolOf read room s)
+  unfolding spoolOf
+  bounded s room = bounded-in (suc (length s)) s room (omega arith)

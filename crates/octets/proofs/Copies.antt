@@ -7,7 +7,7 @@ use native.Mathlib.Nat.{add-assoc, add-zero}
 use native.Mathlib.Numerals.{add-one}
 use native.Mathlib.Omega.{arith}
 use lib.ListN.{length, take, drop, set, getD, length-append, length-take, length-drop, take-append-drop}
-use lib.Seq.{take-at, drop-at, drop-drop, paste, take-length, set-split, take-set-le}
+use lib.Seq.{take-at, drop-at, drop-drop, paste, take-length, take-suc, getD-drop, getD-append-add, set-split, take-set-le}
 use Rattle.octets.specs.Copy.{over, Wrote}
 
 -- a loop that stores byte after byte: `paste d at s i` is d with the first i bytes of s over it
@@ -99,3 +99,31 @@ and-then {d} {at} {p} w room q d″ r′ e =
       ends = simp length-append (omega (arith, w .ends, e .ends));
       holds = e .holds ∙ rw (w .holds, w .ends) (over-over d at p room q);
     }
+
+-- Moving bytes to the front.
+
+behind-front : (d p : List ℕ) (j : ℕ) → length p ≤ j → getD (over d 0 p) j 0 ≡ getD d j 0
+unfolding over
+behind-front d p j h =
+    let e : length p + (j - length p) ≡ j = omega arith in
+    let z : 0 + length p + (j - length p) ≡ j = omega arith in
+    rw (← e) (getD-append-add p (drop (0 + length p) d) (j - length p) 0 ∙ getD-drop (0 + length p) d (j - length p) 0 ∙ rw z (ap (λ (k : ℕ). getD d k 0) (sym e)))
+
+-- the byte at from + i, moved to i
+pub moved-next :
+    (d : List ℕ) (from i : ℕ) → from + i < length d
+    → set (over d 0 (take i (drop from d))) i (getD (over d 0 (take i (drop from d))) (from + i) 0) ≡ over d 0 (take (i + 1) (drop from d))
+moved-next d from i h =
+    let l : length (take i (drop from d)) ≡ i = simp (length-take, length-drop) (omega arith) in
+    let b : getD (over d 0 (take i (drop from d))) (from + i) 0 ≡ getD d (from + i) 0 = behind-front d (take i (drop from d)) (from + i) (omega arith) in
+    let s : take (i + 1) (drop from d) ≡ take i (drop from d) ++ getD d (from + i) 0 ∷ [] =
+    rw add-one (take-suc (drop from d) i 0 (simp length-drop (omega arith)) ∙ rw (getD-drop from d i 0)) in
+    let z : 0 + length (take i (drop from d)) ≡ i = omega arith in
+    rw (b, s) (ap (λ (k : ℕ). set (over d 0 (take i (drop from d))) k (getD d (from + i) 0)) (sym z) ∙ store-last d 0 (take i (drop from d)) (getD d (from + i) 0) (omega arith))
+
+-- a front that stays where it is
+pub front-stays : (d : List ℕ) (n : ℕ) → n ≤ length d → d ≡ over d 0 (take n d)
+unfolding over
+front-stays d n h =
+    let l : 0 + length (take n d) ≡ n = simp length-take (omega arith) in
+    rw l (sym (take-append-drop n d))

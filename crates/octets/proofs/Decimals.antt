@@ -211,3 +211,39 @@ pub decimal-short : (n : ℕ) → length (decimal n) ≤ n + 1
 decimal-short n =
     let h = digits (λ n s t. length t ≤ n + 1 + length s) (λ n s h. omega arith) (λ n s t h ih. omega arith) n n [] (omega arith) in
     omega (arith, h)
+
+-- How many digits a number below a power of ten has.
+
+-- every number below m has at most k digits
+abbrev AtMost : ℕ → ℕ → Type 0
+AtMost m k = (n : ℕ) → n < m → length (decimal n) ≤ k
+
+one-more-digit : (m k : ℕ) → AtMost m k → 1 ≤ k → AtMost (m * 10) (k + 1)
+one-more-digit m k h p n l = by (ltb n 10) refl
+  where
+    by : (t : Bool) → ltb n 10 ≡ t → length (decimal n) ≤ k + 1
+    by true t = omega (arith, ap length (decimal-one n (ltb-true n 10 t)))
+    by false t =
+        let b : 10 ≤ n = ltb-false n 10 t in
+        omega (arith, decimal-longer n b, h (n / 10) (omega arith))
+
+-- 10 to the power of k, for k from 1 on
+unfoldable tens : ℕ → ℕ
+tens zero = 10
+tens (suc k) = tens k * 10
+
+at-most : (k : ℕ) → AtMost (tens k) (k + 1)
+unfolding tens
+at-most zero n h = omega (arith, ap length (decimal-one n h))
+at-most (suc k) n h = omega (arith, one-more-digit (tens k) (k + 1) (at-most k) (omega arith) n h)
+
+pub five-digits : (n : ℕ) → n < 100000 → length (decimal n) ≤ 5
+unfolding tens
+five-digits = at-most 4
+
+-- of a number of 64 bits
+pub twenty-digits : (n : ℕ) → n < 18446744073709551616 → length (decimal n) ≤ 20
+unfolding tens
+twenty-digits n h =
+    let t : length (decimal n) ≤ 20 = at-most 19 n (omega arith) in
+    t

@@ -1,11 +1,12 @@
 -- Each claim of specs/Claims.antt, proved. Crates above cite this file and no other of this folder.
 -- Assumes nothing.
-use Rattle.scgi.specs.Claims.{MoreBytesKeepAnswer, UsedWithin, CutGivesOne, SpoolsHold, AcceptsExactly, RequestOnce, WritesExactly, WriteThenRead, ReadThenWrite, LookupFindsValue, NumbersHold}
+use Rattle.scgi.specs.Claims.{MoreBytesKeepAnswer, UsedWithin, CutGivesOne, SpoolsHold, AcceptsExactly, RequestOnce, WritesExactly, WriteThenRead, ReadThenWrite, LookupFindsValue, NumbersHold, LargestRequest}
 use Rattle.scgi.proofs.Reader as Reader
 use Rattle.scgi.proofs.Requests as Requests
 use Rattle.scgi.proofs.Writer as Writer
 use Rattle.scgi.proofs.Lookups as Lookups
 use Rattle.scgi.proofs.Numbers as Numbers
+use Rattle.scgi.proofs.Limits as Limits
 
 pub more-bytes-keep-answer : MoreBytesKeepAnswer
 more-bytes-keep-answer = Reader.more-bytes-keep-answer
@@ -39,3 +40,6 @@ lookup-finds-value = Lookups.value-found
 
 pub numbers-hold : NumbersHold
 numbers-hold = Numbers.numbers-hold
+
+pub largest-request : LargestRequest
+largest-request = Limits.largest-request

@@ -13,5 +13,6 @@ pub mod ReadSteps
 pub mod WriteSteps
 pub mod SpoolWalks
 pub mod Numbers
+pub mod Limits
 pub mod Worked
 pub mod Claims

@@ -49,7 +49,7 @@ module _ {ns : List ℕ} where
     stated-numbers [] = with-number eight
     stated-numbers (h ∷ hs) = refuses-need (sameBytes (h .name) (bytes "CONTENT_LENGTH")) 8 eight (refuses-given (numberOf (h .value)) 8 eight)
 
-    check-numbers : (b : List ℕ) → Refuses ns (checkBlock b)
+    pub check-numbers : (b : List ℕ) → Refuses ns (checkBlock b)
     unfolding checkBlock
     check-numbers b =
         refuses-then (refuses-given (headersOf b) 5 five)

@@ -13,6 +13,7 @@ use Rattle.octets.specs.Kinds.{isDigit}
 use Rattle.octets.proofs.Lists.{part-more}
 use Rattle.octets.proofs.Outcomes.{need-gives, then-gives}
 use Rattle.framing.proofs.Spools.{spools-equal, spool-cut}
+use Rattle.framing.proofs.SpoolSteps.{spool-goes-on}
 use Rattle.framing.proofs.Keeps.{Keeps, was-cut, same, keeps-then, keeps-cond, keeps-end, kept, Steady, cut-one, steady-frames, still-leb, still-ltb}
 use Rattle.scgi.specs.Check.{checkBlock}
 use Rattle.scgi.specs.Netstring.{NetLength, lengthFrom, lengthOf}
@@ -97,4 +98,5 @@ cut-gives-one = cut-one steady
 
 pub spools-hold : SpoolsHold
 spools-hold =
-    record { frames = steady-frames steady; equal = spools-equal usedOf (steady-frames steady); cut = spool-cut usedOf (steady-frames steady) }
+    let f = steady-frames steady in
+    record { frames = f; equal = spools-equal usedOf f; cut = spool-cut usedOf f; goes-on = spool-goes-on usedOf f }

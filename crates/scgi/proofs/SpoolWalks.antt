@@ -92,7 +92,7 @@ module _ {s d : List ℕ} {i n : ℕ} {out : List ℕ} (r : Standing s d i n out
       stored-one h =
           let z : length d - n ≡ suc (length d - (n + 1)) = omega arith in
           let m : requestsOf (drop i s) (length d - n) ≡ before u (requestsOf (drop (i + u) s) (length d - (n + 1))) =
-              rw (z, ← drop-drop u i s) (onward usedOf frames (drop i s) some (length d - (n + 1)) u reads) in
+          rw (z, ← drop-drop u i s) (onward usedOf frames (drop i s) some (length d - (n + 1)) u reads) in
           record {
             done = r .done ++ (u ∷ []);
             count = simp length-append (omega (arith, r .count));

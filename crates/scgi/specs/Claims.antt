@@ -11,11 +11,12 @@ use lib.ListN.{length, take}
 use Rattle.octets.specs.Outcome.{refused, gives}
 use Rattle.octets.specs.Kinds.{oneOf}
 use Rattle.octets.specs.Decimal.{decimal}
-use Rattle.framing.specs.Claims.{Frames, SpoolsEqual, SpoolCut}
+use Rattle.framing.specs.Claims.{Frames, SpoolsEqual, SpoolCut, SpoolGoesOn}
 use Rattle.scgi.specs.Block.{Header, printed, parsed}
 use Rattle.scgi.specs.Grammar.{netstring, encoded, IsRequest}
 use Rattle.scgi.specs.Lookup.{Part, partOption, valueIn, lookupOf}
 use Rattle.scgi.specs.Read.{Places, readOf, usedOf, blockIn, bodyIn}
+use Rattle.scgi.specs.Window.{largest}
 use Rattle.scgi.specs.Write.{writeOf}
 
 -- more bytes change no answer but 1: "Bytes after the body are not looked at"
@@ -36,6 +37,11 @@ pub record SpoolsHold : Type 0 where
   pub frames : Frames usedOf
   pub equal : SpoolsEqual usedOf
   pub cut : SpoolCut usedOf
+  pub goes-on : SpoolGoesOn usedOf
+
+-- bytes that are taken for a cut request are fewer than the largest request has
+abbrev pub LargestRequest : Type 0
+LargestRequest = (s : List ℕ) → readOf s ≡ refused 1 → length s < largest
 
 -- where headers and body stand in their bytes; the used count "is the length of the request read"
 abbrev pub placesOf : List Header → List ℕ → Places

@@ -8,4 +8,5 @@ pub mod Netstring
 pub mod Read
 pub mod Write
 pub mod Spool
+pub mod Window
 pub mod Claims

@@ -4,8 +4,8 @@ ghost use mathlib.Core.Bool.{cond};
 ghost use lib.Dec.{eqb};
 ghost use Rattle.framing.specs.Spool.{cut, refusedBy};
 ghost use Rattle.scgi.specs.Spool.{endingOf, SpoolDone};
-
-use crate::read::{read, Reading};
+use crate::read::Reading;
+use crate::read::read;
 
 pub enum Ending {
     Whole,

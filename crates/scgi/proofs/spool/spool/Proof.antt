@@ -85,7 +85,7 @@ same-length-2 : tie.Need-same-length-2 Inv-loop μ-loop
 same-length-2 c = search needs
 
 returns-2 : tie.Need-returns-2 Inv-loop μ-loop
-returns-2 c = 
+returns-2 c =
     let t = c .before .before .before .before .before .before .before .before .before in
     refusal (t .before .loop .inv .2) (t .loop-test .taken) _ _ (counted _ (says (c .before .before .before .before .before .before .before) ∙ ap readingOutcome (c .before .before .before .before .before .r2 .given .1 ∙ c .before .before .r3 .given .1))) (c .refusal-ending .ensures)
 
@@ -93,7 +93,7 @@ same-length-3 : tie.Need-same-length-3 Inv-loop μ-loop
 same-length-3 c = search needs
 
 returns-3 : tie.Need-returns-3 Inv-loop μ-loop
-returns-3 c = 
+returns-3 c =
     let t = c .before .before .before .before .before .before in
     no-room (t .before .loop .inv .2) (t .loop-test .taken) _ (reads (c .before)) (omega arith)
 
@@ -113,9 +113,8 @@ loop-less : tie.Need-loop-less Inv-loop μ-loop
 loop-less c = omega (arith, ends (c .before), some (c .before))
 
 loop-again : tie.Need-loop-again Inv-loop μ-loop
-loop-again c = 
-    let t = c .before .before .before .before .before .before in
-    (
+loop-again c =
+    let t = c .before .before .before .before .before .before in (
       omega (arith, ends (c .before)),
       simp length-set (t .before .loop .inv .1),
       stored-one (t .before .loop .inv .2) (t .loop-test .taken) _ (reads (c .before)) (omega arith),
