@@ -1,0 +1,3 @@
+// The head of an HTTP request: where it ends, its lines, the request line, the field lines.
+pub mod head; // where the head ends
+pub mod lines; // where a line ends
