@@ -6,6 +6,8 @@ use mathlib.Core.List.{List, [], _∷_}
 use Prim.Native.Nat.{ℕ, zero, suc, _+_, _≤_, _<_}
 use native.Mathlib.Omega.{arith}
 use lib.Dec.{leb, leb·zero, leb·suc-zero, leb·suc-suc}
+use native.Mathlib.Nat.{le-refl}
+use lib.Seq.{take-length}
 use lib.ListN.{length, take, drop, getD, length-drop, drop-of-length-le}
 use Rattle.octets.specs.Scan.{run, allOf}
 use Rattle.octets.proofs.Lists.{next}
@@ -46,3 +48,6 @@ all-take p (b ∷ s) (suc n) h = by (p b) (all-take p s n (omega arith))
     by : (t : Bool) → allOf p (take n s) ≡ leb n (run p s) → t && allOf p (take n s) ≡ leb (suc n) (cond t (suc (run p s)) 0)
     by true e = e ∙ sym (leb·suc-suc n (run p s))
     by false e = sym (leb·suc-zero n)
+
+pub all-run : (p : ℕ → Bool) (s : List ℕ) → allOf p s ≡ leb (length s) (run p s)
+all-run p s = ap (allOf p) (sym (take-length s)) ∙ all-take p s (length s) (le-refl (length s))
