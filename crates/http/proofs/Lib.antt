@@ -1,3 +1,5 @@
 pub mod Heads
 pub mod LineCuts
 pub mod Requests
+pub mod FieldLines
+pub mod Places

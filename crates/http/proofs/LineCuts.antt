@@ -5,7 +5,6 @@ use mathlib.Core.Bool.{Bool, true, false, cond, _&&_, and-false}
 use mathlib.Core.List.{List, [], _∷_}
 use Prim.Native.Nat.{ℕ, suc, _+_, _-_, _≤_, _<_}
 use native.Mathlib.Nat.{add-zero}
-use native.Mathlib.Numerals.{add-one}
 use native.Mathlib.Omega.{arith}
 use lib.Dec.{eqb}
 use lib.ListN.{length, take, drop, getD, length-drop, drop-of-length-le, List·getD-eq-default}
@@ -144,3 +143,20 @@ module _ (s : List ℕ) (i : ℕ) where
 pub no-lines : (s : List ℕ) (i : ℕ) → length s ≤ i → linesOf (drop i s) .others ≡ []
 unfolding linesFrom
 no-lines s i h = rw (drop-of-length-le s h)
+
+-- the line that begins after the CR LF at i and ends at j, and the lines after it
+module _ (s : List ℕ) (i j : ℕ) (line : j ≡ i + 2 + lineRun (drop (i + 2) s)) where
+  rest-at : drop (lineRun (drop (i + 2) s)) (drop (i + 2) s) ≡ drop j s
+  rest-at = drop-drop (lineRun (drop (i + 2) s)) (i + 2) s ∙ ap (λ (k : ℕ). drop k s) (sym line)
+
+  pub next-line : endsLine (drop i s) ≡ true → linesOf (drop i s) .others ≡ take (j - (i + 2)) (drop (i + 2) s) ∷ linesOf (drop j s) .others
+  next-line e =
+      let n : lineRun (drop (i + 2) s) ≡ j - (i + 2) = omega arith in
+      let f : linesOf (drop (i + 2) s) .first ≡ take (j - (i + 2)) (drop (i + 2) s) = first-line (drop (i + 2) s) ∙ ap (λ (k : ℕ). take k (drop (i + 2) s)) n in
+      let o : linesOf (drop (i + 2) s) .others ≡ linesOf (drop j s) .others = other-lines (drop (i + 2) s) ∙ ap (λ (t : List ℕ). linesOf t .others) rest-at in
+      ap (λ (p : Parts). p .others) (after-end s i e) ∙ rw (f, o)
+
+  pub next-ends : i + 2 ≤ length s → j < length s → endsLine (drop j s) ≡ true
+  next-ends l h =
+      let b : lineRun (drop (i + 2) s) < length (drop (i + 2) s) = simp length-drop (omega arith) in
+      ap endsLine (sym rest-at) ∙ line-ends (drop (i + 2) s) b

@@ -2,3 +2,4 @@
 pub mod head; // where the head ends
 pub mod lines; // where a line ends
 pub mod request_line; // method, target and version of the first line
+pub mod fields; // field lines, and the places of the fields

@@ -2,7 +2,6 @@
 -- Assumes nothing.
 use Rattle.octets.proofs.Tests.{tests}
 use Rattle.http.proofs.Heads.{ends-at}
-use native.Mathlib.Omega.{arith}
 use borrow.Author.Needs.{needs}
 use Rattle.http.proofs.head.ends_head.Statement.{statement}
 use Rattle.http.proofs.head.ends_head.Tie as tie

@@ -1,7 +1,7 @@
 -- `http::head::first_end` meets its contract.
 -- Assumes nothing.
 use mathlib.Core.Path.{_≡_, refl, sym, _∙_}
-use Prim.Native.Nat.{_+_, _-_, _≤_}
+use Prim.Native.Nat.{_-_, _≤_}
 use lib.ListN.{length, drop}
 use Rattle.http.specs.Head.{endFrom}
 use Rattle.http.proofs.Heads.{end-none, end-here, end-later, four-later}

@@ -6,7 +6,6 @@ use lib.Seq.{length-take-le}
 use mathlib.Core.Option.{none}
 use types.Run.{OneOf}
 use denote.Enum.Declared.{tagOf}
-use lib.Dec.{eqb}
 use borrow.Author.Tests.{eqb-false}
 use Rattle.http.specs.Head.{endOption}
 use Rattle.octets.specs.Outcome.{given}
@@ -14,7 +13,6 @@ use Rattle.http.specs.declared.head.End.{End}
 use Rattle.http.specs.declared.head.End.the-variants.{At, Nowhere}
 use Rattle.http.proofs.head.End.{the-type}
 use Rattle.http.proofs.Heads.{under-limit, over-limit}
-use native.Mathlib.Omega.{arith}
 use borrow.Author.Needs.{needs}
 use Rattle.http.proofs.head.head_end.Statement.{statement}
 use Rattle.http.proofs.head.head_end.Tie as tie

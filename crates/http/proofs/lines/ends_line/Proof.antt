@@ -3,7 +3,6 @@
 use mathlib.Core.Path.{sym}
 use Rattle.octets.proofs.Tests.{tests}
 use Rattle.http.proofs.LineCuts.{ends-at, ends-cut}
-use native.Mathlib.Omega.{arith}
 use borrow.Author.Needs.{needs}
 use Rattle.http.proofs.lines.ends_line.Statement.{statement}
 use Rattle.http.proofs.lines.ends_line.Tie as tie

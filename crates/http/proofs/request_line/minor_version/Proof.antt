@@ -2,7 +2,6 @@
 -- Assumes nothing.
 use mathlib.Core.Path.{sym, _∙_}
 use Rattle.http.proofs.Requests.{version-0, version-1, other-number, other-shape}
-use native.Mathlib.Omega.{arith}
 use borrow.Author.Needs.{needs}
 use Rattle.http.proofs.request_line.minor_version.Statement.{statement}
 use Rattle.http.proofs.request_line.minor_version.Tie as tie

@@ -1,0 +1,60 @@
+-- Laws of one field line: what each test of the reader says.
+-- Assumes nothing.
+use mathlib.Core.Path.{_≡_, sym, ap, _∙_}
+use mathlib.Core.Bool.{Bool, and-false}
+use mathlib.Core.List.{List}
+use mathlib.Core.Option.{none, some}
+use Prim.Native.Nat.{ℕ, _+_, _≤_, _<_}
+use native.Mathlib.Omega.{arith}
+use lib.Dec.{leb}
+use lib.ListN.{length, take, drop, length-take}
+use lib.Seq.{drop-drop}
+use borrow.Author.Tests.{lt-ltb, le-ltb, le-leb, lt-leb}
+use Rattle.octets.specs.Kinds.{isBlank, isValue}
+use Rattle.octets.specs.Scan.{run, allOf, other}
+use Rattle.octets.specs.Trim.{kept, trimmed, trimmedEnd}
+use Rattle.octets.proofs.Scans.{all-take}
+use Rattle.octets.proofs.Trims.{kept-le}
+use Rattle.http.specs.Fields.{fieldWith, fieldOf}
+
+-- the first colon stands at n
+module _ (rule : ℕ → Bool) (line : List ℕ) (n : ℕ) (colon : n ≡ 0 + run (other 58) (drop 0 line)) where
+  at-colon : fieldOf rule line ≡ fieldWith rule line n
+  unfolding fieldOf
+  at-colon =
+      let e : run (other 58) line ≡ n = omega arith in
+      ap (fieldWith rule line) e
+
+  pub no-colon : length line ≤ n → fieldOf rule line ≡ none
+  no-colon h = at-colon ∙ simp (le-ltb n (length line) h)
+
+  pub no-name : n ≡ 0 → fieldOf rule line ≡ none
+  no-name h = at-colon ∙ rw h (simp and-false)
+
+  module _ (l : n < length line) where
+    name-test : allOf rule (take n line) ≡ leb n (run rule line)
+    name-test = all-take rule line n (omega arith)
+
+    pub bad-name : (j : ℕ) → j ≡ 0 + run rule (drop 0 line) → j < n → fieldOf rule line ≡ none
+    bad-name j e h = at-colon ∙ simp (name-test, lt-leb n (run rule line) (omega arith), and-false)
+
+    -- .. and the value begins at v and has k bytes
+    module _ (v k : ℕ) (start : v ≡ n + 1 + run isBlank (drop (n + 1) line)) (stays : k ≡ kept (drop v line)) where
+      value-is : trimmed (drop (n + 1) line) ≡ take k (drop v line)
+      value-is =
+          let r : drop (run isBlank (drop (n + 1) line)) (drop (n + 1) line) ≡ drop v line = drop-drop (run isBlank (drop (n + 1) line)) (n + 1) line ∙ ap (λ (i : ℕ). drop i line) (sym start) in
+          ap trimmedEnd r ∙ ap (λ (i : ℕ). take i (drop v line)) (sym stays)
+
+      value-test : allOf isValue (take k (drop v line)) ≡ leb k (run isValue (drop v line))
+      value-test = all-take isValue (drop v line) k (omega (arith, kept-le (drop v line)))
+
+      pub bad-value : (e : ℕ) → e ≡ v + run isValue (drop v line) → e < v + k → fieldOf rule line ≡ none
+      bad-value e q h = at-colon ∙ simp (value-is, value-test, lt-leb k (run isValue (drop v line)) (omega arith), and-false)
+
+      pub whole :
+          (n ≡ 0 → ⊥) → n ≤ 0 + run rule (drop 0 line) → v + k ≤ v + run isValue (drop v line)
+          → fieldOf rule line ≡ some (record { name = take n line; value = take k (drop v line) })
+      whole z a b =
+          let m : 0 < length (take n line) = simp length-take (omega arith) in
+          at-colon
+          ∙ simp (value-is, value-test, name-test, lt-ltb n (length line) l, lt-ltb 0 (length (take n line)) m, le-leb n (run rule line) (omega arith), le-leb k (run isValue (drop v line)) (omega arith))
