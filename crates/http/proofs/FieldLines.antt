@@ -1,16 +1,16 @@
 -- Laws of one field line: what each test of the reader says.
 -- Assumes nothing.
-use mathlib.Core.Path.{_≡_, sym, ap, _∙_}
-use mathlib.Core.Bool.{Bool, and-false}
-use mathlib.Core.List.{List}
+use mathlib.Core.Path.{_≡_, refl, sym, ap, _∙_}
+use mathlib.Core.Bool.{Bool, true, false, _||_, and-false}
+use mathlib.Core.List.{List, _∷_}
 use mathlib.Core.Option.{none, some}
-use Prim.Native.Nat.{ℕ, _+_, _≤_, _<_}
+use Prim.Native.Nat.{ℕ, zero, suc, _+_, _≤_, _<_}
 use native.Mathlib.Omega.{arith}
-use lib.Dec.{leb}
+use lib.Dec.{leb, eqb}
 use lib.ListN.{length, take, drop, length-take}
 use lib.Seq.{drop-drop}
-use borrow.Author.Tests.{lt-ltb, le-ltb, le-leb, lt-leb}
-use Rattle.octets.specs.Kinds.{isBlank, isValue}
+use borrow.Author.Tests.{eqb-true, lt-ltb, le-ltb, le-leb, lt-leb}
+use Rattle.octets.specs.Kinds.{isDigit, isLetter, isToken, isName, isBlank, isValue}
 use Rattle.octets.specs.Scan.{run, allOf, other}
 use Rattle.octets.specs.Trim.{kept, trimmed, trimmedEnd}
 use Rattle.octets.proofs.Scans.{all-take}
@@ -58,3 +58,27 @@ module _ (rule : ℕ → Bool) (line : List ℕ) (n : ℕ) (colon : n ≡ 0 + ru
           let m : 0 < length (take n line) = simp length-take (omega arith) in
           at-colon
           ∙ simp (value-is, value-test, name-test, lt-ltb n (length line) l, lt-ltb 0 (length (take n line)) m, le-leb n (run rule line) (omega arith), le-leb k (run isValue (drop v line)) (omega arith))
+
+-- "A line that begins with space or tab is refused"
+first-byte : (rule : ℕ → Bool) (b : ℕ) (s : List ℕ) (n : ℕ) → rule b ≡ false → fieldWith rule (b ∷ s) n ≡ none
+unfolding allOf
+first-byte rule b s zero e = simp and-false
+first-byte rule b s (suc n) e = simp (e, and-false)
+
+blank-token : (b : ℕ) → isBlank b ≡ true → isToken b ≡ false
+unfolding isBlank isToken isDigit isLetter
+blank-token b = by (eqb b 32) (eqb b 9) refl refl
+  where
+    by : (t u : Bool) → eqb b 32 ≡ t → eqb b 9 ≡ u → t || u ≡ true → isToken b ≡ false
+    by true u p q e = ap isToken (eqb-true b 32 p)
+    by false true p q e = ap isToken (eqb-true b 9 q)
+    by false false p q e = cc
+
+module _ (b : ℕ) (s : List ℕ) (blank : isBlank b ≡ true) where
+  pub blank-first : fieldOf isToken (b ∷ s) ≡ none
+  unfolding fieldOf
+  blank-first = first-byte isToken b s (run (other 58) (b ∷ s)) (blank-token b blank)
+
+  pub blank-first-name : fieldOf isName (b ∷ s) ≡ none
+  unfolding fieldOf isName
+  blank-first-name = first-byte isName b s (run (other 58) (b ∷ s)) (rw (blank-token b blank))

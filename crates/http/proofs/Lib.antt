@@ -3,3 +3,4 @@ pub mod LineCuts
 pub mod Requests
 pub mod FieldLines
 pub mod Places
+pub mod Worked

@@ -1,8 +1,8 @@
 -- Laws of the request line: what each test of the reader says.
 -- Assumes nothing.
-use mathlib.Core.Path.{_≡_, ap, _∙_}
+use mathlib.Core.Path.{_≡_, sym, ap, _∙_}
 use mathlib.Core.Bool.{true, false, and-false}
-use mathlib.Core.List.{List, []}
+use mathlib.Core.List.{List, [], _∷_, _++_}
 use Prim.Native.Nat.{ℕ, _+_, _-_, _≤_, _<_}
 use native.Mathlib.Omega.{arith}
 use lib.ListN.{length, take, drop, getD, length-drop}
@@ -15,9 +15,10 @@ use Rattle.octets.specs.Scan.{run, other}
 use Rattle.octets.specs.Compare.{sameBytes}
 use Rattle.octets.specs.Parts.{Parts, parted, before}
 use Rattle.octets.proofs.Compares.{same-true}
+use Rattle.octets.proofs.Outcomes.{need-gives, then-gives}
 use Rattle.octets.proofs.Scans.{all-run}
-use Rattle.octets.proofs.Parting.{part-found, part-none}
-use Rattle.http.specs.RequestLine.{FirstLine, isMethod, isVersion, versionOf, versionText, threeParts, requestLineOf}
+use Rattle.octets.proofs.Parting.{joinedBy, parts-of, part-found, part-none}
+use Rattle.http.specs.RequestLine.{FirstLine, isMethod, isVersion, isServed, versionOf, versionText, threeParts, requestLineOf}
 
 -- the method
 module _ (m : List ℕ) where
@@ -145,3 +146,33 @@ module _ (line : List ℕ) (m : ℕ) (method : m ≡ 0 + run (other 32) (drop 0 
             isMethod (take m line) ≡ true → (d : ℕ) → versionOf (drop (t + 1) line) ≡ gives (versionText d)
             → requestLineOf line ≡ gives (record { method = take m line; target = take (t - (m + 1)) (drop (m + 1) line); version = versionText d })
         whole q d r = three-parts ∙ rw (q, r)
+
+-- FOR CALLERS: what a request line is made of
+pub record Reads (line : List ℕ) (f : FirstLine) : Type 0 where
+  pub parts : line ≡ f .method ++ (32 ∷ (f .target ++ (32 ∷ f .version)))
+  pub method : isMethod (f .method) ≡ true
+  pub version : isVersion (f .version) ≡ true
+  pub served : isServed (f .version) ≡ true
+
+three :
+    (line m t v : List ℕ) (f : FirstLine) → joinedBy 32 m (t ∷ (v ∷ [])) ≡ line
+    → need (isMethod m) 12 (then (versionOf v) (λ w. gives (record { method = m; target = t; version = w }))) ≡ gives f → Reads line f
+unfolding joinedBy versionOf
+three line m t v f j e =
+    let a = need-gives (isMethod m) 12 (then (versionOf v) (λ w. gives (record { method = m; target = t; version = w }))) f e in
+    let g = then-gives (versionOf v) (λ w. gives (record { method = m; target = t; version = w })) f (a .1) in
+    let b = need-gives (isVersion v) 12 (need (isServed v) 13 (gives v)) (g .it) (g .first) in
+    let d = need-gives (isServed v) 13 (gives v) (g .it) (b .1) in
+    let x : v ≡ g .it = cc in
+    let y : f ≡ record { method = m; target = t; version = v } = cc in
+    rw y (record { parts = sym j; method = a .0; version = b .0; served = d .0 })
+
+pub line-read : (line : List ℕ) (f : FirstLine) → requestLineOf line ≡ gives f → Reads line f
+unfolding requestLineOf
+line-read line f = by (parted 32 line .first) (parted 32 line .others) (parts-of 32 line .from)
+  where
+    by : (m : List ℕ) (os : List (List ℕ)) → joinedBy 32 m os ≡ line → threeParts m os ≡ gives f → Reads line f
+    by m [] j e = absurd (let z : _≡_ {A = ℕ} 0 1 = cc in omega arith)
+    by m (t ∷ []) j e = absurd (let z : _≡_ {A = ℕ} 0 1 = cc in omega arith)
+    by m (t ∷ (v ∷ (x ∷ xs))) j e = absurd (let z : _≡_ {A = ℕ} 0 1 = cc in omega arith)
+    by m (t ∷ (v ∷ [])) j e = three line m t v f j e

@@ -16,6 +16,7 @@ use Rattle.http.specs.declared.fields.FieldLine.the-variants.{Field as L
 use Rattle.http.specs.declared.fields.Fields.{Fields}
 use Rattle.http.specs.declared.fields.Fields.the-variants.{Count, Refused}
 
+-- "a name, `:`, a value"
 pub record Field : Type 0 where
   pub name : List ℕ
   pub value : List ℕ

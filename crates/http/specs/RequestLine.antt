@@ -46,7 +46,7 @@ threeParts m (t ∷ []) = refused 12
 threeParts m (t ∷ (v ∷ [])) = need (isMethod m) 12 (then (versionOf v) (λ w. gives (record { method = m; target = t; version = w })))
 threeParts m (t ∷ (v ∷ (x ∷ xs))) = refused 12
 
--- 32 is the space
+-- the request line, parted at its spaces; 32 is the space
 unfoldable pub requestLineOf : List ℕ → Outcome FirstLine
 requestLineOf line = threeParts (parted 32 line .first) (parted 32 line .others)
 

@@ -47,7 +47,7 @@ fn is_version(kinds: &[u8; 256], s: &[u8]) -> bool
     is_kind(kinds, Kind::Digit, s[7])
 }
 
-pub enum Version {
+enum Version {
     Minor(u8),
     Refused(u8),
 }
