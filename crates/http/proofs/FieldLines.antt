@@ -1,21 +1,24 @@
--- Laws of one field line: what each test of the reader says.
+-- Laws of field lines: what each test of the reader says, and the bytes of a field.
 -- Assumes nothing.
 use mathlib.Core.Path.{_≡_, refl, sym, ap, _∙_}
-use mathlib.Core.Bool.{Bool, true, false, _||_, and-false}
-use mathlib.Core.List.{List, _∷_}
-use mathlib.Core.Option.{none, some}
+use mathlib.Core.Bool.{Bool, true, false, cond, _&&_, _||_, and-false}
+use mathlib.Core.List.{List, [], _∷_}
+use mathlib.Core.Option.{Option, none, some}
 use Prim.Native.Nat.{ℕ, zero, suc, _+_, _≤_, _<_}
 use native.Mathlib.Omega.{arith}
-use lib.Dec.{leb, eqb}
+use lib.Dec.{leb, ltb, eqb}
 use lib.ListN.{length, take, drop, length-take}
 use lib.Seq.{drop-drop}
 use borrow.Author.Tests.{eqb-true, lt-ltb, le-ltb, le-leb, lt-leb}
+use Rattle.octets.specs.Lists.{All, no-more, _&_}
+use Rattle.octets.specs.Outcome.{gives}
+use Rattle.octets.proofs.Outcomes.{given-gives}
 use Rattle.octets.specs.Kinds.{isDigit, isLetter, isToken, isName, isBlank, isValue}
 use Rattle.octets.specs.Scan.{run, allOf, other}
 use Rattle.octets.specs.Trim.{kept, trimmed, trimmedEnd}
 use Rattle.octets.proofs.Scans.{all-take}
 use Rattle.octets.proofs.Trims.{kept-le}
-use Rattle.http.specs.Fields.{fieldWith, fieldOf}
+use Rattle.http.specs.Fields.{Field, isFieldName, fieldWith, fieldOf, ahead, eachField, fieldsIn, fieldsOf}
 
 -- the first colon stands at n
 module _ (rule : ℕ → Bool) (line : List ℕ) (n : ℕ) (colon : n ≡ 0 + run (other 58) (drop 0 line)) where
@@ -82,3 +85,44 @@ module _ (b : ℕ) (s : List ℕ) (blank : isBlank b ≡ true) where
   pub blank-first-name : fieldOf isName (b ∷ s) ≡ none
   unfolding fieldOf isName
   blank-first-name = first-byte isName b s (run (other 58) (b ∷ s)) (rw (blank-token b blank))
+
+-- FOR CALLERS: the bytes of a field's name and value
+pub record Clean (rule : ℕ → Bool) (f : Field) : Type 0 where
+  pub name : isFieldName rule (f .name) ≡ true
+  pub value : allOf isValue (f .value) ≡ true
+
+pub field-clean : (rule : ℕ → Bool) (line : List ℕ) (f : Field) → fieldOf rule line ≡ some f → Clean rule f
+unfolding fieldOf
+field-clean rule line f = with-colon (run (other 58) line)
+  where
+    with-colon : (n : ℕ) → fieldWith rule line n ≡ some f → Clean rule f
+    with-colon n = by (ltb n (length line)) (isFieldName rule (take n line)) (allOf isValue (trimmed (drop (n + 1) line))) refl refl
+      where
+        by :
+            (a b c : Bool) → isFieldName rule (take n line) ≡ b → allOf isValue (trimmed (drop (n + 1) line)) ≡ c
+            → cond (a && b && c) (some (record { name = take n line; value = trimmed (drop (n + 1) line) })) none ≡ some f → Clean rule f
+        by true true true p q e =
+            let z : f ≡ record { name = take n line; value = trimmed (drop (n + 1) line) } = cc in
+            rw z (record { name = p; value = q })
+        by true true false p q e = absurd (let z : _≡_ {A = ℕ} 0 1 = cc in omega arith)
+        by true false c p q e = absurd (let z : _≡_ {A = ℕ} 0 1 = cc in omega arith)
+        by false b c p q e = absurd (let z : _≡_ {A = ℕ} 0 1 = cc in omega arith)
+
+each-clean : (rule : ℕ → Bool) (ls : List (List ℕ)) (fs : List Field) → eachField rule ls ≡ some fs → All (Clean rule) fs
+unfolding eachField
+each-clean rule [] fs e = let z : fs ≡ [] = cc in rw z no-more
+each-clean rule (l ∷ ls) fs e = by (fieldOf rule l) (eachField rule ls) refl refl (each-clean rule ls) e
+  where
+    by :
+        (f : Option Field) (o : Option (List Field)) → fieldOf rule l ≡ f → eachField rule ls ≡ o
+        → ((gs : List Field) → eachField rule ls ≡ some gs → All (Clean rule) gs) → ahead f o ≡ some fs → All (Clean rule) fs
+    by none o p q ih e = absurd (let z : _≡_ {A = ℕ} 0 1 = cc in omega arith)
+    by (some f) none p q ih e = absurd (let z : _≡_ {A = ℕ} 0 1 = cc in omega arith)
+    by (some f) (some gs) p q ih e = let z : fs ≡ f ∷ gs = cc in rw z (field-clean rule l f p & ih gs q)
+
+pub fields-clean : (rule : ℕ → Bool) (ls : List (List ℕ)) (fs : List Field) → fieldsOf rule ls ≡ gives fs → All (Clean rule) fs
+fields-clean rule ls fs e = by (leb (length ls) 64) (given-gives (fieldsIn 64 rule ls) 15 fs e)
+  where
+    by : (t : Bool) → cond t (eachField rule ls) none ≡ some fs → All (Clean rule) fs
+    by true q = each-clean rule ls fs q
+    by false q = absurd (let z : _≡_ {A = ℕ} 0 1 = cc in omega arith)

@@ -12,6 +12,8 @@ use native.Mathlib.Omega.{arith}
 use lib.Dec.{leb, leb·zero, leb·suc-zero, leb·suc-suc}
 use lib.ListN.{length, take, drop, getD, set, length-set, length-take, length-drop}
 use lib.Seq.{getD-set-same, getD-set-other, drop-set-lt, drop-drop, append-snoc}
+use borrow.Author.Tests.{leb-true}
+use Rattle.octets.proofs.Outcomes.{given-gives}
 use Rattle.octets.proofs.Lists.{part-take}
 use Rattle.http.specs.Fields.{Field, fieldOf, ahead, eachField, fieldsIn, fieldAt, fieldsAt, Inside, AllInside, Stored}
 use Rattle.http.specs.declared.fields.Fields.the-variants.{Count, Refused}
@@ -239,3 +241,29 @@ module _ (head : List ℕ) (x m n v k : ℕ) (l : x ≤ length head) (a : n ≤ 
       (some (record { name = take n (drop x head); value = take k (drop (x + v) head) }))
   in-head =
       rw (part-take (drop x head) m 0 n (omega arith), part-take (drop x head) m v k b, drop-drop v x head)
+
+-- FOR CALLERS: no more than 64 fields are stored
+each-length : (rule : ℕ → Bool) (ls : List (List ℕ)) (fs : List Field) → eachField rule ls ≡ some fs → length fs ≡ length ls
+unfolding eachField
+each-length rule [] fs e = let z : fs ≡ [] = cc in rw z
+each-length rule (l ∷ ls) fs e = by (fieldOf rule l) (eachField rule ls) refl (each-length rule ls) e
+  where
+    by :
+        (f : Option Field) (o : Option (List Field)) → eachField rule ls ≡ o → ((gs : List Field) → eachField rule ls ≡ some gs → length gs ≡ length ls)
+        → ahead f o ≡ some fs → length fs ≡ suc (length ls)
+    by none o q ih e = let z : _≡_ {A = ℕ} 0 1 = cc in omega arith
+    by (some f) none q ih e = let z : _≡_ {A = ℕ} 0 1 = cc in omega arith
+    by (some f) (some gs) q ih e = let z : fs ≡ f ∷ gs = cc in rw z (ap suc (ih gs q))
+
+fields-length : (head ps : List ℕ) (n k : ℕ) → length (fieldsAt head ps k n) ≡ n
+unfolding fieldsAt
+fields-length head ps zero k = refl
+fields-length head ps (suc n) k = ap suc (fields-length head ps n (k + 1))
+
+pub stored-count :
+    {rule : ℕ → Bool} {lines : List (List ℕ)} {head d out : List ℕ} {n : ℕ} → Stored rule lines head d out (Count n) → (n ≡ length lines) × (n ≤ 64)
+stored-count {rule} {lines} {head} {d} {out} {n} r = by (leb (length lines) 64) refl (given-gives (fieldsIn 64 rule lines) 15 (fieldsAt head out 0 n) (sym (r .answer)))
+  where
+    by : (t : Bool) → leb (length lines) 64 ≡ t → cond t (eachField rule lines) none ≡ some (fieldsAt head out 0 n) → (n ≡ length lines) × (n ≤ 64)
+    by true q e = omega (arith, each-length rule lines (fieldsAt head out 0 n) e, fields-length head out n 0, leb-true (length lines) 64 q)
+    by false q e = let z : _≡_ {A = ℕ} 0 1 = cc in omega arith

@@ -1,7 +1,7 @@
--- Laws of the request line: what each test of the reader says.
+-- Laws of the request line: what each test of the reader says, and what a request line is made of.
 -- Assumes nothing.
-use mathlib.Core.Path.{_≡_, sym, ap, _∙_}
-use mathlib.Core.Bool.{true, false, and-false}
+use mathlib.Core.Path.{_≡_, refl, sym, ap, _∙_}
+use mathlib.Core.Bool.{Bool, true, false, _||_, and-false, false≢true}
 use mathlib.Core.List.{List, [], _∷_, _++_}
 use Prim.Native.Nat.{ℕ, _+_, _-_, _≤_, _<_}
 use native.Mathlib.Omega.{arith}
@@ -10,14 +10,17 @@ use lib.Seq.{drop-drop}
 use borrow.Author.Tests.{eq-eqb, ne-eqb, le-leb, lt-leb}
 use Rattle.octets.specs.Text.{bytes}
 use Rattle.octets.specs.Outcome.{Outcome, refused, gives, then, need}
-use Rattle.octets.specs.Kinds.{isDigit, isToken}
-use Rattle.octets.specs.Scan.{run, other}
+use Rattle.octets.specs.Kinds.{isDigit, isLetter, isToken, within}
+use Rattle.octets.specs.Scan.{run, allOf, other}
 use Rattle.octets.specs.Compare.{sameBytes}
 use Rattle.octets.specs.Parts.{Parts, parted, before}
+use Rattle.octets.specs.Lists.{All, _&_, Without}
+use Rattle.octets.proofs.Bools.{and-right}
+use Rattle.octets.proofs.Alls.{all-without}
 use Rattle.octets.proofs.Compares.{same-true}
 use Rattle.octets.proofs.Outcomes.{need-gives, then-gives}
 use Rattle.octets.proofs.Scans.{all-run}
-use Rattle.octets.proofs.Parting.{joinedBy, parts-of, part-found, part-none}
+use Rattle.octets.proofs.Parting.{joinedBy, parts-of, part-ended, part-found, part-none}
 use Rattle.http.specs.RequestLine.{FirstLine, isMethod, isVersion, isServed, versionOf, versionText, threeParts, requestLineOf}
 
 -- the method
@@ -147,32 +150,59 @@ module _ (line : List ℕ) (m : ℕ) (method : m ≡ 0 + run (other 32) (drop 0 
             → requestLineOf line ≡ gives (record { method = take m line; target = take (t - (m + 1)) (drop (m + 1) line); version = versionText d })
         whole q d r = three-parts ∙ rw (q, r)
 
--- FOR CALLERS: what a request line is made of
+-- FOR CALLERS: what a request line is made of, and that what is made so is a request line
 pub record Reads (line : List ℕ) (f : FirstLine) : Type 0 where
   pub parts : line ≡ f .method ++ (32 ∷ (f .target ++ (32 ∷ f .version)))
   pub method : isMethod (f .method) ≡ true
+  pub target : Without 32 (f .target)
   pub version : isVersion (f .version) ≡ true
   pub served : isServed (f .version) ≡ true
 
 three :
-    (line m t v : List ℕ) (f : FirstLine) → joinedBy 32 m (t ∷ (v ∷ [])) ≡ line
+    (line m t v : List ℕ) (f : FirstLine) → joinedBy 32 m (t ∷ (v ∷ [])) ≡ line → Without 32 t
     → need (isMethod m) 12 (then (versionOf v) (λ w. gives (record { method = m; target = t; version = w }))) ≡ gives f → Reads line f
 unfolding joinedBy versionOf
-three line m t v f j e =
+three line m t v f j n e =
     let a = need-gives (isMethod m) 12 (then (versionOf v) (λ w. gives (record { method = m; target = t; version = w }))) f e in
     let g = then-gives (versionOf v) (λ w. gives (record { method = m; target = t; version = w })) f (a .1) in
     let b = need-gives (isVersion v) 12 (need (isServed v) 13 (gives v)) (g .it) (g .first) in
     let d = need-gives (isServed v) 13 (gives v) (g .it) (b .1) in
     let x : v ≡ g .it = cc in
     let y : f ≡ record { method = m; target = t; version = v } = cc in
-    rw y (record { parts = sym j; method = a .0; version = b .0; served = d .0 })
+    rw y (record { parts = sym j; method = a .0; target = n; version = b .0; served = d .0 })
 
 pub line-read : (line : List ℕ) (f : FirstLine) → requestLineOf line ≡ gives f → Reads line f
 unfolding requestLineOf
-line-read line f = by (parted 32 line .first) (parted 32 line .others) (parts-of 32 line .from)
+line-read line f = by (parted 32 line .first) (parted 32 line .others) (parts-of 32 line .from) (parts-of 32 line .in-others)
   where
-    by : (m : List ℕ) (os : List (List ℕ)) → joinedBy 32 m os ≡ line → threeParts m os ≡ gives f → Reads line f
-    by m [] j e = absurd (let z : _≡_ {A = ℕ} 0 1 = cc in omega arith)
-    by m (t ∷ []) j e = absurd (let z : _≡_ {A = ℕ} 0 1 = cc in omega arith)
-    by m (t ∷ (v ∷ (x ∷ xs))) j e = absurd (let z : _≡_ {A = ℕ} 0 1 = cc in omega arith)
-    by m (t ∷ (v ∷ [])) j e = three line m t v f j e
+    by : (m : List ℕ) (os : List (List ℕ)) → joinedBy 32 m os ≡ line → All (Without 32) os → threeParts m os ≡ gives f → Reads line f
+    by m [] j n e = absurd (let z : _≡_ {A = ℕ} 0 1 = cc in omega arith)
+    by m (t ∷ []) j n e = absurd (let z : _≡_ {A = ℕ} 0 1 = cc in omega arith)
+    by m (t ∷ (v ∷ (x ∷ xs))) j n e = absurd (let z : _≡_ {A = ℕ} 0 1 = cc in omega arith)
+    by m (t ∷ (v ∷ [])) j (n & ns) e = three line m t v f j n e
+
+method-space : (m : List ℕ) → isMethod m ≡ true → Without 32 m
+unfolding isMethod isToken isDigit isLetter
+method-space m e = all-without isToken 32 m refl (and-right (within 1 32 (length m)) (allOf isToken m) e)
+
+served-space : (v : List ℕ) → isServed v ≡ true → Without 32 v
+unfolding allOf
+served-space v = by (sameBytes v (bytes "HTTP/1.0")) (sameBytes v (bytes "HTTP/1.1")) refl refl
+  where
+    by : (t u : Bool) → sameBytes v (bytes "HTTP/1.0") ≡ t → sameBytes v (bytes "HTTP/1.1") ≡ u → t || u ≡ true → Without 32 v
+    by true u p q e = rw (same-true v (bytes "HTTP/1.0") p) (all-without (other 32) 32 (bytes "HTTP/1.0") refl refl)
+    by false true p q e = rw (same-true v (bytes "HTTP/1.1") q) (all-without (other 32) 32 (bytes "HTTP/1.1") refl refl)
+    by false false p q e = absurd (false≢true e)
+
+last-one : (v : List ℕ) → Without 32 v → parted 32 v ≡ record { first = v; others = [] }
+unfolding parted
+last-one [] n = refl
+last-one (b ∷ v) (h & n) = simp (ne-eqb b 32 h, last-one v n)
+
+pub line-made : (line : List ℕ) (f : FirstLine) → Reads line f → requestLineOf line ≡ gives f
+unfolding requestLineOf versionOf
+line-made line f r =
+    let p : parted 32 line ≡ record { first = f .method; others = f .target ∷ (f .version ∷ []) } =
+    ap (parted 32) (r .parts) ∙ part-ended 32 (f .method) _ (method-space _ (r .method))
+    ∙ rw (part-ended 32 (f .target) (f .version) (r .target), last-one (f .version) (served-space _ (r .served))) in
+    ap partsOutcome p ∙ rw (r .method, r .version, r .served)
