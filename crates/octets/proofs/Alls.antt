@@ -2,13 +2,14 @@
 -- Assumes nothing.
 use Prim.Native.Nat.{ℕ}
 use mathlib.Core.Path.{_≡_, refl, sym, ap, _∙_}
-use mathlib.Core.Bool.{Bool, true, not, _&&_}
+use mathlib.Core.Bool.{Bool, true, false, false≢true, not, _&&_}
 use mathlib.Core.List.{List, [], _∷_, _++_, map}
 use lib.Dec.{eqb}
 use lib.ListN.{length, take, drop}
 use lib.Seq.{take-append-seam, drop-append-seam}
 use borrow.Author.Tests.{eqb-false, not-true}
 use Rattle.octets.specs.Lists.{All, no-more, _&_, Without, NoNul}
+use Rattle.octets.specs.Scan.{allOf}
 use Rattle.octets.proofs.Bools.{and-left, and-right}
 
 module _ {A : Type 0} {P : A → Type 0} where
@@ -46,3 +47,10 @@ cut-first x (y ∷ a) (z ∷ b) s t (n & p) (m & q) e =
 pub cut-length : {A : Type 0} (a b s t : List A) → length a ≡ length b → a ++ s ≡ b ++ t → (a ≡ b) × (s ≡ t)
 cut-length a b s t n e =
     (sym (take-append-seam a s) ∙ ap (take (length a)) e ∙ rw n (take-append-seam b t), sym (drop-append-seam a s) ∙ ap (drop (length a)) e ∙ rw n (drop-append-seam b t))
+
+-- a byte that fails a test is in no list whose bytes pass it
+pub all-without : (p : ℕ → Bool) (x : ℕ) (s : List ℕ) → p x ≡ false → allOf p s ≡ true → Without x s
+unfolding allOf
+all-without p x [] f e = no-more
+all-without p x (b ∷ s) f e =
+    (λ q. false≢true (sym f ∙ ap p (sym q) ∙ and-left (p b) (allOf p s) e)) & all-without p x s f (and-right (p b) (allOf p s) e)

@@ -6,6 +6,7 @@ pub mod Alls
 pub mod Table
 pub mod KindTable
 pub mod Scans
+pub mod Trims
 pub mod Parting
 pub mod Compares
 pub mod Names

@@ -1,12 +1,15 @@
 -- Laws of runs, for loops that go byte by byte and for lists that are parted at a byte.
 -- Assumes nothing.
-use mathlib.Core.Path.{_≡_, refl, ap, _∙_}
-use mathlib.Core.Bool.{Bool, true, false, cond}
+use mathlib.Core.Path.{_≡_, sym, ap, _∙_}
+use mathlib.Core.Bool.{Bool, true, false, cond, _&&_}
 use mathlib.Core.List.{List, [], _∷_}
-use Prim.Native.Nat.{ℕ, suc, _+_, _≤_, _<_}
+use Prim.Native.Nat.{ℕ, zero, suc, _+_, _≤_, _<_}
 use native.Mathlib.Omega.{arith}
-use lib.ListN.{length, drop, getD, length-drop, drop-of-length-le}
-use Rattle.octets.specs.Scan.{run}
+use lib.Dec.{leb, leb·zero, leb·suc-zero, leb·suc-suc}
+use native.Mathlib.Nat.{le-refl}
+use lib.Seq.{take-length}
+use lib.ListN.{length, take, drop, getD, length-drop, drop-of-length-le}
+use Rattle.octets.specs.Scan.{run, allOf}
 use Rattle.octets.proofs.Lists.{next}
 
 module _ (p : ℕ → Bool) (s : List ℕ) (i : ℕ) where
@@ -34,3 +37,17 @@ run-le p (b ∷ s) = by (p b) (run-le p s)
 -- a run that begins within s ends within s
 pub run-within : (p : ℕ → Bool) (s : List ℕ) (i : ℕ) → i ≤ length s → i + run p (drop i s) ≤ length s
 run-within p s i h = omega (arith, run-le p (drop i s), length-drop i s)
+
+-- the first n bytes pass a test where the run of bytes that pass it is not shorter
+pub all-take : (p : ℕ → Bool) (s : List ℕ) (n : ℕ) → n ≤ length s → allOf p (take n s) ≡ leb n (run p s)
+unfolding run allOf
+all-take p s zero h = sym (leb·zero (run p s))
+all-take p [] (suc n) h = absurd (omega arith)
+all-take p (b ∷ s) (suc n) h = by (p b) (all-take p s n (omega arith))
+  where
+    by : (t : Bool) → allOf p (take n s) ≡ leb n (run p s) → t && allOf p (take n s) ≡ leb (suc n) (cond t (suc (run p s)) 0)
+    by true e = e ∙ sym (leb·suc-suc n (run p s))
+    by false e = sym (leb·suc-zero n)
+
+pub all-run : (p : ℕ → Bool) (s : List ℕ) → allOf p s ≡ leb (length s) (run p s)
+all-run p s = ap (allOf p) (sym (take-length s)) ∙ all-take p s (length s) (le-refl (length s))

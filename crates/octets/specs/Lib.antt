@@ -3,6 +3,7 @@ pub mod Outcome
 pub mod Kinds
 pub mod KindTable
 pub mod Scan
+pub mod Trim
 pub mod Compare
 pub mod Lists
 pub mod Decimal

@@ -1,6 +1,6 @@
 // The kinds of a byte, told by one table of 256 numbers (kind_table.rt).
 ghost use mathlib.Core.Path.{_≡_};
-ghost use Rattle.octets.specs.Kinds.{kindNumber, rule};
+ghost use Rattle.octets.specs.Kinds.{isBlank, kindNumber, rule};
 ghost use Rattle.octets.specs.KindTable.{table};
 
 pub enum Kind {
@@ -36,4 +36,14 @@ pub fn is_kind(kinds: &[u8; 256], kind: Kind, b: u8) -> bool
     ensures { λ r. ⌜ r ≡ rule kind b ⌝ }
 {
     kinds[b as usize] / number(kind) % 2 == 1
+}
+
+// Whether b is a space or a tab.
+pub fn is_blank(b: u8) -> bool
+    ensures { λ r. ⌜ r ≡ isBlank b ⌝ }
+{
+    if b == b' ' {
+        return true;
+    }
+    b == b'\t'
 }

@@ -1,0 +1,6 @@
+pub mod Heads
+pub mod LineCuts
+pub mod Requests
+pub mod FieldLines
+pub mod Places
+pub mod Worked

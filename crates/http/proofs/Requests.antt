@@ -1,0 +1,208 @@
+-- Laws of the request line: what each test of the reader says, and what a request line is made of.
+-- Assumes nothing.
+use mathlib.Core.Path.{_≡_, refl, sym, ap, _∙_}
+use mathlib.Core.Bool.{Bool, true, false, _||_, and-false, false≢true}
+use mathlib.Core.List.{List, [], _∷_, _++_}
+use Prim.Native.Nat.{ℕ, _+_, _-_, _≤_, _<_}
+use native.Mathlib.Omega.{arith}
+use lib.ListN.{length, take, drop, getD, length-drop}
+use lib.Seq.{drop-drop}
+use borrow.Author.Tests.{eq-eqb, ne-eqb, le-leb, lt-leb}
+use Rattle.octets.specs.Text.{bytes}
+use Rattle.octets.specs.Outcome.{Outcome, refused, gives, then, need}
+use Rattle.octets.specs.Kinds.{isDigit, isLetter, isToken, within}
+use Rattle.octets.specs.Scan.{run, allOf, other}
+use Rattle.octets.specs.Compare.{sameBytes}
+use Rattle.octets.specs.Parts.{Parts, parted, before}
+use Rattle.octets.specs.Lists.{All, _&_, Without}
+use Rattle.octets.proofs.Bools.{and-right}
+use Rattle.octets.proofs.Alls.{all-without}
+use Rattle.octets.proofs.Compares.{same-true}
+use Rattle.octets.proofs.Outcomes.{need-gives, then-gives}
+use Rattle.octets.proofs.Scans.{all-run}
+use Rattle.octets.proofs.Parting.{joinedBy, parts-of, part-ended, part-found, part-none}
+use Rattle.http.specs.RequestLine.{FirstLine, isMethod, isVersion, isServed, versionOf, versionText, threeParts, requestLineOf}
+
+-- the method
+module _ (m : List ℕ) where
+  pub empty-method : length m ≡ 0 → isMethod m ≡ false
+  unfolding isMethod
+  empty-method h = simp (lt-leb 1 (length m) (omega arith))
+
+  pub long-method : 32 < length m → isMethod m ≡ false
+  unfolding isMethod
+  long-method h = simp (lt-leb (length m) 32 h, and-false)
+
+  pub other-method : 0 + run isToken (drop 0 m) < length m → isMethod m ≡ false
+  unfolding isMethod
+  other-method h = simp (all-run isToken m, lt-leb (length m) (run isToken m) (omega arith), and-false)
+
+  pub token-method : (length m ≡ 0 → ⊥) → length m ≤ 32 → length m ≤ 0 + run isToken (drop 0 m) → isMethod m ≡ true
+  unfolding isMethod
+  token-method z l h =
+      simp (all-run isToken m, le-leb 1 (length m) (omega arith), le-leb (length m) 32 l, le-leb (length m) (run isToken m) (omega arith))
+
+-- the version's shape
+module _ (v : List ℕ) where
+  pub other-length : (length v ≡ 8 → ⊥) → isVersion v ≡ false
+  unfolding isVersion
+  other-length h = simp (ne-eqb _ _ h)
+
+  pub other-name : sameBytes (take 5 v) (bytes "HTTP/") ≡ false → isVersion v ≡ false
+  unfolding isVersion
+  other-name h = simp (h, and-false)
+
+  pub other-major : isDigit (getD v 5 0) ≡ false → isVersion v ≡ false
+  unfolding isVersion
+  other-major h = simp (h, and-false)
+
+  pub other-dot : (getD v 6 0 ≡ 46 → ⊥) → isVersion v ≡ false
+  unfolding isVersion
+  other-dot h = simp (ne-eqb _ _ h, and-false)
+
+  pub last-digit :
+      length v ≡ 8 → sameBytes (take 5 v) (bytes "HTTP/") ≡ true → isDigit (getD v 5 0) ≡ true → getD v 6 0 ≡ 46 → isVersion v ≡ isDigit (getD v 7 0)
+  unfolding isVersion
+  last-digit l n d p = simp (eq-eqb _ _ l, n, d, eq-eqb _ _ p)
+
+-- the version
+pub version-0 : (v : List ℕ) → sameBytes v (bytes "HTTP/1.0") ≡ true → versionOf v ≡ gives (versionText 0)
+unfolding versionOf isVersion isDigit sameBytes
+version-0 v e =
+    let q : v ≡ bytes "HTTP/1.0" = same-true v (bytes "HTTP/1.0") e in
+    ap versionOf q
+
+pub version-1 : (v : List ℕ) → sameBytes v (bytes "HTTP/1.1") ≡ true → versionOf v ≡ gives (versionText 1)
+unfolding versionOf isVersion isDigit sameBytes
+version-1 v e =
+    let q : v ≡ bytes "HTTP/1.1" = same-true v (bytes "HTTP/1.1") e in
+    ap versionOf q
+
+pub other-number :
+    (v : List ℕ) → sameBytes v (bytes "HTTP/1.0") ≡ false → sameBytes v (bytes "HTTP/1.1") ≡ false → isVersion v ≡ true → versionOf v ≡ refused 13
+unfolding versionOf
+other-number v a b e = rw (e, a, b)
+
+pub other-shape : (v : List ℕ) → isVersion v ≡ false → versionOf v ≡ refused 12
+unfolding versionOf
+other-shape v e = rw e
+
+-- where the next part at a space begins, from i on
+module _ (line : List ℕ) (i j : ℕ) (end : j ≡ i + run (other 32) (drop i line)) where
+  more-parts : j < length line → parted 32 (drop i line) ≡ before (take (j - i) (drop i line)) (parted 32 (drop (j + 1) line))
+  more-parts h =
+      let n = run (other 32) (drop i line) in
+      let r : n ≡ j - i = omega arith in
+      let l : n < length (drop i line) = simp length-drop (omega arith) in
+      let q : i + (n + 1) ≡ j + 1 = omega arith in
+      part-found 32 (drop i line) l
+      ∙ ap (λ (k : ℕ). before (take k (drop i line)) (parted 32 (drop (n + 1) (drop i line)))) r
+      ∙ ap (λ (s : List ℕ). before (take (j - i) (drop i line)) (parted 32 s)) (drop-drop (n + 1) i line ∙ ap (λ (k : ℕ). drop k line) q)
+
+  last-part : length line ≤ j → parted 32 (drop i line) ≡ record { first = drop i line; others = [] }
+  last-part h = part-none 32 (drop i line) (simp length-drop (omega arith))
+
+abbrev partsOutcome : Parts → Outcome FirstLine
+partsOutcome p = threeParts (p .first) (p .others)
+
+-- the first space stands at m
+module _ (line : List ℕ) (m : ℕ) (method : m ≡ 0 + run (other 32) (drop 0 line)) where
+  pub one-part : length line ≤ m → requestLineOf line ≡ refused 12
+  unfolding requestLineOf
+  one-part h = ap partsOutcome (last-part line 0 m method h)
+
+  -- .. and the second at t
+  module _ (l : m < length line) (t : ℕ) (target : t ≡ m + 1 + run (other 32) (drop (m + 1) line)) where
+    pub two-parts : length line ≤ t → requestLineOf line ≡ refused 12
+    unfolding requestLineOf
+    two-parts h = ap partsOutcome (more-parts line 0 m method l ∙ ap (before (take (m - 0) line)) (last-part line (m + 1) t target h))
+
+    -- .. and the next one, or the end, at e
+    module _ (k : t < length line) (e : ℕ) (version : e ≡ t + 1 + run (other 32) (drop (t + 1) line)) where
+      parts :
+          parted 32 line ≡ before (take m line) (before (take (t - (m + 1)) (drop (m + 1) line)) (parted 32 (drop (t + 1) line)))
+      parts =
+          let z : m - 0 ≡ m = omega arith in
+          more-parts line 0 m method l
+          ∙ ap (λ (n : ℕ). before (take n line) (parted 32 (drop (m + 1) line))) z
+          ∙ ap (before (take m line)) (more-parts line (m + 1) t target k)
+
+      pub four-parts : e < length line → requestLineOf line ≡ refused 12
+      unfolding requestLineOf
+      four-parts h = ap partsOutcome (parts ∙ ap (λ (p : Parts). before (take m line) (before (take (t - (m + 1)) (drop (m + 1) line)) p)) (more-parts line (t + 1) e version h))
+
+      module _ (h : length line ≤ e) where
+        three-parts :
+            requestLineOf line
+            ≡ need (isMethod (take m line)) 12
+            (then (versionOf (drop (t + 1) line)) (λ w. gives (record { method = take m line; target = take (t - (m + 1)) (drop (m + 1) line); version = w })))
+        unfolding requestLineOf
+        three-parts = ap partsOutcome (parts ∙ ap (λ (p : Parts). before (take m line) (before (take (t - (m + 1)) (drop (m + 1) line)) p)) (last-part line (t + 1) e version h))
+
+        pub no-method : isMethod (take m line) ≡ false → requestLineOf line ≡ refused 12
+        no-method q = three-parts ∙ rw q
+
+        pub bad-version : isMethod (take m line) ≡ true → (n : ℕ) → versionOf (drop (t + 1) line) ≡ refused n → requestLineOf line ≡ refused n
+        bad-version q n r = three-parts ∙ rw (q, r)
+
+        pub whole :
+            isMethod (take m line) ≡ true → (d : ℕ) → versionOf (drop (t + 1) line) ≡ gives (versionText d)
+            → requestLineOf line ≡ gives (record { method = take m line; target = take (t - (m + 1)) (drop (m + 1) line); version = versionText d })
+        whole q d r = three-parts ∙ rw (q, r)
+
+-- FOR CALLERS: what a request line is made of, and that what is made so is a request line
+pub record Reads (line : List ℕ) (f : FirstLine) : Type 0 where
+  pub parts : line ≡ f .method ++ (32 ∷ (f .target ++ (32 ∷ f .version)))
+  pub method : isMethod (f .method) ≡ true
+  pub target : Without 32 (f .target)
+  pub version : isVersion (f .version) ≡ true
+  pub served : isServed (f .version) ≡ true
+
+three :
+    (line m t v : List ℕ) (f : FirstLine) → joinedBy 32 m (t ∷ (v ∷ [])) ≡ line → Without 32 t
+    → need (isMethod m) 12 (then (versionOf v) (λ w. gives (record { method = m; target = t; version = w }))) ≡ gives f → Reads line f
+unfolding joinedBy versionOf
+three line m t v f j n e =
+    let a = need-gives (isMethod m) 12 (then (versionOf v) (λ w. gives (record { method = m; target = t; version = w }))) f e in
+    let g = then-gives (versionOf v) (λ w. gives (record { method = m; target = t; version = w })) f (a .1) in
+    let b = need-gives (isVersion v) 12 (need (isServed v) 13 (gives v)) (g .it) (g .first) in
+    let d = need-gives (isServed v) 13 (gives v) (g .it) (b .1) in
+    let x : v ≡ g .it = cc in
+    let y : f ≡ record { method = m; target = t; version = v } = cc in
+    rw y (record { parts = sym j; method = a .0; target = n; version = b .0; served = d .0 })
+
+pub line-read : (line : List ℕ) (f : FirstLine) → requestLineOf line ≡ gives f → Reads line f
+unfolding requestLineOf
+line-read line f = by (parted 32 line .first) (parted 32 line .others) (parts-of 32 line .from) (parts-of 32 line .in-others)
+  where
+    by : (m : List ℕ) (os : List (List ℕ)) → joinedBy 32 m os ≡ line → All (Without 32) os → threeParts m os ≡ gives f → Reads line f
+    by m [] j n e = absurd (let z : _≡_ {A = ℕ} 0 1 = cc in omega arith)
+    by m (t ∷ []) j n e = absurd (let z : _≡_ {A = ℕ} 0 1 = cc in omega arith)
+    by m (t ∷ (v ∷ (x ∷ xs))) j n e = absurd (let z : _≡_ {A = ℕ} 0 1 = cc in omega arith)
+    by m (t ∷ (v ∷ [])) j (n & ns) e = three line m t v f j n e
+
+method-space : (m : List ℕ) → isMethod m ≡ true → Without 32 m
+unfolding isMethod isToken isDigit isLetter
+method-space m e = all-without isToken 32 m refl (and-right (within 1 32 (length m)) (allOf isToken m) e)
+
+served-space : (v : List ℕ) → isServed v ≡ true → Without 32 v
+unfolding allOf
+served-space v = by (sameBytes v (bytes "HTTP/1.0")) (sameBytes v (bytes "HTTP/1.1")) refl refl
+  where
+    by : (t u : Bool) → sameBytes v (bytes "HTTP/1.0") ≡ t → sameBytes v (bytes "HTTP/1.1") ≡ u → t || u ≡ true → Without 32 v
+    by true u p q e = rw (same-true v (bytes "HTTP/1.0") p) (all-without (other 32) 32 (bytes "HTTP/1.0") refl refl)
+    by false true p q e = rw (same-true v (bytes "HTTP/1.1") q) (all-without (other 32) 32 (bytes "HTTP/1.1") refl refl)
+    by false false p q e = absurd (false≢true e)
+
+last-one : (v : List ℕ) → Without 32 v → parted 32 v ≡ record { first = v; others = [] }
+unfolding parted
+last-one [] n = refl
+last-one (b ∷ v) (h & n) = simp (ne-eqb b 32 h, last-one v n)
+
+pub line-made : (line : List ℕ) (f : FirstLine) → Reads line f → requestLineOf line ≡ gives f
+unfolding requestLineOf versionOf
+line-made line f r =
+    let p : parted 32 line ≡ record { first = f .method; others = f .target ∷ (f .version ∷ []) } =
+    ap (parted 32) (r .parts) ∙ part-ended 32 (f .method) _ (method-space _ (r .method))
+    ∙ rw (part-ended 32 (f .target) (f .version) (r .target), last-one (f .version) (served-space _ (r .served))) in
+    ap partsOutcome p ∙ rw (r .method, r .version, r .served)

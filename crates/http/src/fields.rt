@@ -1,0 +1,96 @@
+// Field lines, and the places of a request's fields.
+ghost use mathlib.Core.Path.{_≡_};
+ghost use Prim.Native.Nat.{_+_, _≤_};
+ghost use lib.ListN.{length, set};
+ghost use Rattle.octets.specs.Kinds.{isName, rule};
+ghost use Rattle.octets.specs.KindTable.{table};
+ghost use Rattle.http.specs.Lines.{linesOf, lineRun};
+ghost use Rattle.http.specs.Fields.{fieldIn, nameEnd, valueEnd, fieldOf, Stored};
+use crate::lines::line_end;
+use octets::kinds::Kind;
+use octets::scan::find;
+use octets::scan::run_end;
+use octets::trim::blank_end;
+use octets::trim::kept_len;
+
+pub enum FieldLine {
+    Field {
+        name_len: usize,
+        value: usize,
+        value_len: usize,
+    },
+    Malformed,
+}
+
+// The field of a line, which is given without its end; the bytes of its name are of the kind.
+pub fn field_line(kinds: &[u8; 256], kind: Kind, line: &[u8]) -> FieldLine
+    requires { ⌜ now kinds ≡ table ⌝ }
+    ensures { λ r. ⌜ (fieldIn (now (line .entry)) r ≡ fieldOf (rule kind) (now (line .entry))) × (nameEnd r ≤ length (now (line .entry))) × (valueEnd r ≤ length (now (line .entry))) ⌝ }
+{
+    let n = find(line, 0, b':');
+    if line.len() <= n {
+        return FieldLine::Malformed;
+    }
+    if n == 0 {
+        return FieldLine::Malformed;
+    }
+    if run_end(kinds, kind, line, 0) < n {
+        return FieldLine::Malformed;
+    }
+    let v = blank_end(line, n + 1);
+    let k = kept_len(line, v);
+    if run_end(kinds, Kind::Value, line, v) < v + k {
+        return FieldLine::Malformed;
+    }
+    FieldLine::Field {
+        name_len: n,
+        value: v,
+        value_len: k,
+    }
+}
+
+// Four numbers, from at on.
+fn put_four(out: &mut [u64], at: usize, a: usize, b: usize, c: usize, d: usize)
+    requires { ⌜ at + 4 ≤ length (now out) ⌝ }
+    ensures { λ r. ⌜ now (out .exit) ≡ set (set (set (set (now (out .entry)) at a) (at + 1) b) (at + 2) c) (at + 3) d ⌝ }
+{
+    out[at] = a as u64;
+    out[at + 1] = b as u64;
+    out[at + 2] = c as u64;
+    out[at + 3] = d as u64;
+}
+
+pub enum Fields {
+    Count(usize),
+    Refused(u8),
+}
+
+// The fields of a request's head, which is given without its CR LF CR LF, and whose first line ends at from: how many they are, and in
+// places four numbers for each, the start and length of its name and of its value in head.
+pub fn field_lines(kinds: &[u8; 256], head: &[u8], from: usize, places: &mut [u64]) -> Fields
+    requires { ⌜ (now kinds ≡ table) × (from ≡ lineRun (now head)) × (256 ≤ length (now places)) ⌝ }
+    ensures { λ r. ⌜ Stored isName (linesOf (now (head .entry)) .others) (now (head .entry)) (now (places .entry)) (now (places .exit)) r ⌝ }
+{
+    let mut end = from;
+    let mut n: usize = 0;
+    while end < head.len() {
+        if n == 64 {
+            return Fields::Refused(15);
+        }
+        let start = end + 2;
+        let next = line_end(head, start);
+        let l = field_line(kinds, Kind::Name, &head[start..next]);
+        let FieldLine::Field {
+            name_len,
+            value,
+            value_len,
+        } = l
+        else {
+            return Fields::Refused(15);
+        };
+        put_four(places, 4 * n, start, name_len, start + value, value_len);
+        n += 1;
+        end = next;
+    }
+    Fields::Count(n)
+}

@@ -1,0 +1,68 @@
+// Where the head of a request ends.
+ghost use mathlib.Core.Path.{_≡_};
+ghost use Prim.Native.Nat.{_+_, _<_};
+ghost use lib.ListN.{length, drop};
+ghost use Rattle.http.specs.Head.{endsHead, endFrom, endOption, headOutcome, headOf};
+
+// Whether CR LF CR LF stands at i.
+fn ends_head(s: &[u8], i: usize) -> bool
+    requires { ⌜ i + 3 < length (now s) ⌝ }
+    ensures { λ r. ⌜ r ≡ endsHead (drop i (now (s .entry))) ⌝ }
+{
+    if s[i] != b'\r' {
+        return false;
+    }
+    if s[i + 1] != b'\n' {
+        return false;
+    }
+    if s[i + 2] != b'\r' {
+        return false;
+    }
+    s[i + 3] == b'\n'
+}
+
+enum End {
+    At(usize),
+    Nowhere,
+}
+
+// The end of the first CR LF CR LF. Four bytes are passed at once where the fourth is above CR, and so neither CR nor LF.
+fn first_end(s: &[u8]) -> End
+    ensures { λ r. ⌜ endOption r ≡ endFrom 0 (now (s .entry)) ⌝ }
+{
+    let mut i: usize = 0;
+    while 3 < s.len() - i {
+        if b'\r' < s[i + 3] {
+            i += 4;
+            continue;
+        }
+        if ends_head(s, i) {
+            return End::At(i + 4);
+        }
+        i += 1;
+    }
+    End::Nowhere
+}
+
+pub enum Head {
+    Bytes(usize),
+    Refused(u8),
+}
+
+// How many bytes the head at the start of s has, with its CR LF CR LF.
+pub fn head_end(s: &[u8]) -> Head
+    ensures { λ r. ⌜ headOutcome r ≡ headOf (now (s .entry)) ⌝ }
+{
+    if s.len() < 8192 {
+        let e = first_end(s);
+        let End::At(n) = e else {
+            return Head::Refused(1);
+        };
+        return Head::Bytes(n);
+    }
+    let e = first_end(&s[..8192]);
+    let End::At(n) = e else {
+        return Head::Refused(11);
+    };
+    Head::Bytes(n)
+}

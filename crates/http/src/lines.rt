@@ -1,0 +1,34 @@
+// Where a line ends.
+ghost use mathlib.Core.Path.{_≡_};
+ghost use Prim.Native.Nat.{_+_, _≤_, _<_};
+ghost use lib.ListN.{length, drop};
+ghost use Rattle.http.specs.Lines.{endsLine, lineRun};
+
+// Whether CR LF stands at i.
+fn ends_line(s: &[u8], i: usize) -> bool
+    requires { ⌜ i < length (now s) ⌝ }
+    ensures { λ r. ⌜ r ≡ endsLine (drop i (now (s .entry))) ⌝ }
+{
+    if s[i] != b'\r' {
+        return false;
+    }
+    if s.len() - i < 2 {
+        return false;
+    }
+    s[i + 1] == b'\n'
+}
+
+// The first CR LF of s at or after from, or the length of s.
+pub fn line_end(s: &[u8], from: usize) -> usize
+    requires { ⌜ from ≤ length (now s) ⌝ }
+    ensures { λ r. ⌜ r ≡ from + lineRun (drop from (now (s .entry))) ⌝ }
+{
+    let mut i = from;
+    while i < s.len() {
+        if ends_line(s, i) {
+            return i;
+        }
+        i += 1;
+    }
+    i
+}
