@@ -6,7 +6,7 @@ use Prim.Native.Nat.{ℕ, suc, _+_, _-_, _≤_, _<_}
 use native.Mathlib.Nat.{add-assoc, add-zero}
 use native.Mathlib.Numerals.{add-one}
 use native.Mathlib.Omega.{arith}
-use lib.ListN.{length, take, drop, set, getD, length-append, length-take, length-drop}
+use lib.ListN.{length, take, drop, set, getD, length-append, length-take, length-drop, take-append-drop}
 use lib.Seq.{take-at, drop-at, drop-drop, paste, take-length, set-split, take-set-le}
 use Rattle.octets.specs.Copy.{over, Wrote}
 
@@ -77,3 +77,12 @@ and-then {d} {at} {p} w room q d″ r′ e =
       ends = simp length-append (omega (arith, w .ends, e .ends));
       holds = e .holds ∙ rw (w .holds, w .ends) (over-over d at p room q);
     }
+
+-- writing nothing
+pub over-none : (d : List ℕ) (at : ℕ) → over d at [] ≡ d
+unfolding over
+over-none d at = rw add-zero (take-append-drop at d)
+
+-- the first byte of a piece, and then the rest
+pub first-then : (d : List ℕ) (at b : ℕ) (p : List ℕ) → at < length d → over d at (b ∷ p) ≡ over (set d at b) (at + 1) p
+first-then d at b p h = sym (rw (one-byte d at b h) (over-over d at (b ∷ []) (omega arith) p))

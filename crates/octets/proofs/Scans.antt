@@ -1,12 +1,14 @@
 -- Laws of runs, for loops that go byte by byte and for lists that are parted at a byte.
 -- Assumes nothing.
-use mathlib.Core.Path.{_≡_, refl, ap, _∙_}
-use mathlib.Core.Bool.{Bool, true, false, cond}
+use mathlib.Core.Path.{_≡_, refl, sym, ap, _∙_}
+use mathlib.Core.Bool.{Bool, true, false, cond, _&&_}
 use mathlib.Core.List.{List, [], _∷_}
 use Prim.Native.Nat.{ℕ, suc, _+_, _≤_, _<_}
 use native.Mathlib.Omega.{arith}
+use lib.Dec.{eqb, eqb·suc-suc, eqb·zero-suc}
 use lib.ListN.{length, drop, getD, length-drop, drop-of-length-le}
-use Rattle.octets.specs.Scan.{run}
+use borrow.Author.Tests.{eq-eqb, ne-eqb}
+use Rattle.octets.specs.Scan.{run, allOf, count}
 use Rattle.octets.proofs.Lists.{next}
 
 module _ (p : ℕ → Bool) (s : List ℕ) (i : ℕ) where
@@ -34,3 +36,44 @@ run-le p (b ∷ s) = by (p b) (run-le p s)
 -- a run that begins within s ends within s
 pub run-within : (p : ℕ → Bool) (s : List ℕ) (i : ℕ) → i ≤ length s → i + run p (drop i s) ≤ length s
 run-within p s i h = omega (arith, run-le p (drop i s), length-drop i s)
+
+-- each byte passes where the run is the whole list
+pub all-run : (p : ℕ → Bool) (s : List ℕ) → allOf p s ≡ eqb (run p s) (length s)
+unfolding run allOf
+all-run p [] = refl
+all-run p (b ∷ s) = by (p b) (all-run p s)
+  where
+    by :
+        (t : Bool) → allOf p s ≡ eqb (run p s) (length s) → t && allOf p s ≡ eqb (cond t (suc (run p s)) 0) (suc (length s))
+    by true h = h ∙ sym (eqb·suc-suc (run p s) (length s))
+    by false h = sym (eqb·zero-suc (length s))
+
+-- A test of each byte, byte by byte.
+
+module _ (p : ℕ → Bool) (s : List ℕ) (i : ℕ) where
+  pub all-stop : i < length s → p (getD s i 0) ≡ false → allOf p (drop i s) ≡ false
+  unfolding allOf
+  all-stop h e = ap (allOf p) (next s i h) ∙ simp e
+
+  pub all-more : i < length s → p (getD s i 0) ≡ true → allOf p (drop i s) ≡ allOf p (drop (i + 1) s)
+  unfolding allOf
+  all-more h e = ap (allOf p) (next s i h) ∙ simp e
+
+  pub all-none : length s ≤ i → allOf p (drop i s) ≡ true
+  unfolding allOf
+  all-none h = rw (drop-of-length-le s h)
+
+-- A count, byte by byte.
+
+module _ (x : ℕ) (s : List ℕ) (i : ℕ) where
+  pub count-hit : i < length s → getD s i 0 ≡ x → count x (drop i s) ≡ suc (count x (drop (i + 1) s))
+  unfolding count
+  count-hit h e = ap (count x) (next s i h) ∙ simp (eq-eqb _ _ e)
+
+  pub count-miss : i < length s → (getD s i 0 ≡ x → ⊥) → count x (drop i s) ≡ count x (drop (i + 1) s)
+  unfolding count
+  count-miss h e = ap (count x) (next s i h) ∙ simp (ne-eqb _ _ e)
+
+  pub count-none : length s ≤ i → count x (drop i s) ≡ 0
+  unfolding count
+  count-none h = rw (drop-of-length-le s h)

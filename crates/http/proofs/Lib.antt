@@ -1,0 +1,3 @@
+pub mod Escapes
+pub mod Targets
+pub mod TargetsWorked
