@@ -1,3 +1,4 @@
 pub mod Escapes
 pub mod Targets
+pub mod TargetsAccepted
 pub mod TargetsWorked

@@ -91,7 +91,19 @@ pub path-length : (t : List ℕ) → length (pathOf t) ≡ run (other 63) t
 unfolding pathOf
 path-length t = length-take-le (run (other 63) t) t (run-le (other 63) t)
 
--- what the target says as it stands
+-- n is the place of the first 63, as a scan gives it
+module _ (t : List ℕ) (n : ℕ) (e : n ≡ 0 + run (other 63) t) where
+  pub path-inside : n ≤ length t
+  path-inside = omega (arith, run-le (other 63) t)
+
+  pub path-ends : n ≡ length (pathOf t)
+  path-ends = omega (arith, path-length t)
+
+  pub path-taken : take n t ≡ pathOf t
+  unfolding pathOf
+  path-taken = ap (λ (m : ℕ). take m t) (e ∙ zero-add (run (other 63) t))
+
+-- What the tests of the target as it stands say; n is what a scan gives.
 
 module _ (t : List ℕ) where
   pub raw-empty : length t ≡ 0 → rawOf t ≡ RawRefused 14
@@ -106,10 +118,10 @@ module _ (t : List ℕ) where
   unfolding rawRight
   raw-start h = simp (ne-eqb _ _ h, and-false)
 
-  pub raw-byte : (n : ℕ) → n ≡ run isTarget t → (n ≡ length t → ⊥) → rawOf t ≡ RawRefused 14
+  pub raw-byte : (n : ℕ) → n ≡ 0 + run isTarget t → (n ≡ length t → ⊥) → rawOf t ≡ RawRefused 14
   unfolding rawRight
   raw-byte n e h =
-      let f : allOf isTarget t ≡ false = all-run isTarget t ∙ rw (sym e) (ne-eqb n (length t) h) in
+      let f : allOf isTarget t ≡ false = all-run isTarget t ∙ ne-eqb _ _ (λ q. h (e ∙ zero-add (run isTarget t) ∙ q)) in
       simp (f, and-false)
 
   pub raw-escapes : escapesRight t ≡ false → rawOf t ≡ RawRefused 14
@@ -121,12 +133,12 @@ module _ (t : List ℕ) where
   raw-slashes h = simp (lt-leb (count 47 (pathOf t)) 64 h, and-false)
 
   pub raw-whole :
-      (length t ≡ 0 → ⊥) → length t ≤ 4096 → getD t 0 0 ≡ 47 → run isTarget t ≡ length t → escapesRight t ≡ true
+      (length t ≡ 0 → ⊥) → length t ≤ 4096 → getD t 0 0 ≡ 47 → (n : ℕ) → n ≡ 0 + run isTarget t → n ≡ length t → escapesRight t ≡ true
       → count 47 (pathOf t) ≤ 64 → rawOf t ≡ RawPath (length (pathOf t)) (count 47 (pathOf t))
   unfolding rawRight
-  raw-whole a b c d e f =
+  raw-whole a b c n d m e f =
       let a′ : 1 ≤ length t = omega arith in
-      let d′ : allOf isTarget t ≡ true = all-run isTarget t ∙ eq-eqb _ _ d in
+      let d′ : allOf isTarget t ≡ true = all-run isTarget t ∙ eq-eqb (run isTarget t) (length t) (omega arith) in
       simp (le-leb 1 (length t) a′, le-leb (length t) 4096 b, eq-eqb _ _ c, d′, e, le-leb (count 47 (pathOf t)) 64 f)
 
 -- what a target says that is right as it stands
@@ -188,7 +200,7 @@ raw-gives t k n = by (rawRight t) refl
     by true q e = record { right = q; length-is = cc; slashes-are = cc }
     by false q e = record { right = cc; length-is = cc; slashes-are = cc }
 
-module _ (t d : List ℕ) (k n : ℕ) (e : rawOf t ≡ RawPath k n) (room : length t ≤ length d) where
+module _ (t d : List ℕ) (k n : ℕ) (e : rawOf t ≡ RawPath k n) (room : 4096 ≤ length d) where
   pub raw-inside : k ≤ length t
   raw-inside = omega (arith, raw-gives t k n e .length-is, path-length t, run-le (other 63) t)
 
@@ -197,7 +209,7 @@ module _ (t d : List ℕ) (k n : ℕ) (e : rawOf t ≡ RawPath k n) (room : leng
   path-part = ap (λ (m : ℕ). take m t) (raw-gives t k n e .length-is ∙ path-length t)
 
   pub path-room : length (take k t) ≤ length d
-  path-room = omega (arith, length-take-le k t raw-inside, raw-inside)
+  path-room = omega (arith, length-take-le k t raw-inside, raw-inside, raw-says t (raw-gives t k n e .right) .short)
 
   pub path-right : escapesRight (take k t) ≡ true
   unfolding pathOf
@@ -208,8 +220,9 @@ module _ (t d : List ℕ) (k n : ℕ) (e : rawOf t ≡ RawPath k n) (room : leng
     decoded-length : r ≡ length (decoded (pathOf t))
     decoded-length = w .ends ∙ zero-add (length (decoded (take k t))) ∙ ap (λ (p : List ℕ). length (decoded p)) path-part
 
-    decoded-room : length (decoded (pathOf t)) ≤ length t
-    decoded-room = omega (arith, decoded-le 0 (pathOf t), path-length t, run-le (other 63) t)
+    decoded-room : length (decoded (pathOf t)) ≤ 4096
+    decoded-room =
+        omega (arith, decoded-le 0 (pathOf t), path-length t, run-le (other 63) t, raw-says t (raw-gives t k n e .right) .short)
 
     decoded-over : d′ ≡ over d 0 (decoded (pathOf t))
     decoded-over = rw path-part at (w .holds)
@@ -221,7 +234,7 @@ module _ (t d : List ℕ) (k n : ℕ) (e : rawOf t ≡ RawPath k n) (room : leng
     front-inside = omega (arith, decoded-length, decoded-room, same-room)
 
     pub front-short : r ≤ 4096
-    front-short = omega (arith, decoded-length, decoded-room, raw-says t (raw-gives t k n e .right) .short)
+    front-short = omega (arith, decoded-length, decoded-room)
 
     front : take r d′ ≡ decoded (pathOf t)
     front =

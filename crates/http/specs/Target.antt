@@ -23,7 +23,7 @@ use Rattle.http.specs.declared.target.TargetPlace.the-variants.{Path, Re
 unfoldable pub pathOf : List ℕ → List ℕ
 pathOf t = take (run (other 63) t) t
 
--- the bytes after the first 63; none where there is none
+-- the bytes after the first 63; none where there is no 63
 unfoldable pub queryOf : List ℕ → List ℕ
 queryOf t = drop (run (other 63) t + 1) t
 
@@ -41,12 +41,12 @@ isPlain b = not (leb b 31 || eqb b 127)
 abbrev pub isDots : List ℕ → Bool
 isDots s = sameBytes s (bytes ".") || sameBytes s (bytes "..")
 
--- no part is such a segment
+-- none of the parts is such a segment
 unfoldable pub noDots : List (List ℕ) → Bool
 noDots [] = true
 noDots (s ∷ ss) = not (isDots s) && noDots ss
 
--- no segment of p, the parts between its slashes, is one
+-- .. where the segments are the parts between the slashes
 unfoldable pub segmentsRight : List ℕ → Bool
 segmentsRight p = noDots (parted 47 p .first ∷ parted 47 p .others)
 
@@ -87,6 +87,6 @@ pub record TargetRead (t before after : List ℕ) (r : TargetPlace) : Type 0 whe
   pub measured : Measured t r
   pub buffer : after ≡ over before 0 (written t)
 
--- the step that judges a target as it stands: the lengths of its path and how many slashes the path has
+-- For the step that judges a target as it stands: the length of its path, and how many slashes the path has.
 abbrev pub rawOf : List ℕ → Raw
 rawOf t = cond (rawRight t) (RawPath (length (pathOf t)) (count 47 (pathOf t))) (RawRefused 14)

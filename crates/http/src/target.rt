@@ -132,9 +132,9 @@ fn decoded_path(d: &[u8], before: usize) -> bool
     segments(d)
 }
 
-// The target t. The decoded path is written to the front of the buffer, which has room for the whole target.
+// The target t. The decoded path is written to the front of the buffer, which has room for the longest target.
 pub fn target(t: &[u8], path: &mut [u8]) -> TargetPlace
-    requires { ⌜ length (now t) ≤ length (now path) ⌝ }
+    requires { ⌜ 4096 ≤ length (now path) ⌝ }
     ensures { λ r. ⌜ TargetRead (now (t .entry)) (now (path .entry)) (now (path .exit)) r ⌝ }
 {
     let kinds = octets::kind_table::kinds();

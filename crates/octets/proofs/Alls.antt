@@ -2,12 +2,14 @@
 -- Assumes nothing.
 use Prim.Native.Nat.{ℕ}
 use mathlib.Core.Path.{_≡_, refl, sym, ap, _∙_}
-use mathlib.Core.Bool.{Bool, true, not, _&&_}
+use mathlib.Core.Bool.{Bool, true, false, not, _&&_}
 use mathlib.Core.List.{List, [], _∷_, _++_, map}
+use native.Mathlib.Omega.{arith}
 use lib.Dec.{eqb}
 use lib.ListN.{length, take, drop}
 use lib.Seq.{take-append-seam, drop-append-seam}
 use borrow.Author.Tests.{eqb-false, not-true}
+use Rattle.octets.specs.Scan.{allOf}
 use Rattle.octets.specs.Lists.{All, no-more, _&_, Without, NoNul}
 use Rattle.octets.proofs.Bools.{and-left, and-right}
 
@@ -32,6 +34,14 @@ hasNoNul (b ∷ s) = not (eqb b 0) && hasNoNul s
 pub no-nul : (s : List ℕ) → hasNoNul s ≡ true → NoNul s
 no-nul [] t = no-more
 no-nul (b ∷ s) t = eqb-false b 0 (not-true _ (and-left _ (hasNoNul s) t)) & (no-nul s (and-right (not (eqb b 0)) _ t))
+
+-- each byte passes a test that x does not pass
+pub all-without : (p : ℕ → Bool) (x : ℕ) (s : List ℕ) → p x ≡ false → allOf p s ≡ true → Without x s
+unfolding allOf
+all-without p x [] f e = no-more
+all-without p x (b ∷ s) f e =
+    (λ q. let z : _≡_ {A = Bool} true false = sym (and-left (p b) (allOf p s) e) ∙ ap p q ∙ f in let y : _≡_ {A = ℕ} 0 1 = cc in omega arith)
+    & all-without p x s f (and-right (p b) (allOf p s) e)
 
 -- bytes before the first x
 pub cut-first : (x : ℕ) (a b s t : List ℕ) → Without x a → Without x b → a ++ x ∷ s ≡ b ++ x ∷ t → (a ≡ b) × (s ≡ t)

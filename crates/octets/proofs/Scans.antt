@@ -3,12 +3,13 @@
 use mathlib.Core.Path.{_≡_, refl, sym, ap, _∙_}
 use mathlib.Core.Bool.{Bool, true, false, cond, _&&_}
 use mathlib.Core.List.{List, [], _∷_}
-use Prim.Native.Nat.{ℕ, suc, _+_, _≤_, _<_}
+use Prim.Native.Nat.{ℕ, zero, suc, _+_, _≤_, _<_}
 use native.Mathlib.Omega.{arith}
 use lib.Dec.{eqb, eqb·suc-suc, eqb·zero-suc}
 use lib.ListN.{length, drop, getD, length-drop, drop-of-length-le}
 use borrow.Author.Tests.{eq-eqb, ne-eqb}
 use Rattle.octets.specs.Scan.{run, allOf, count}
+use Rattle.octets.proofs.Bools.{and-right}
 use Rattle.octets.proofs.Lists.{next}
 
 module _ (p : ℕ → Bool) (s : List ℕ) (i : ℕ) where
@@ -47,6 +48,12 @@ all-run p (b ∷ s) = by (p b) (all-run p s)
         (t : Bool) → allOf p s ≡ eqb (run p s) (length s) → t && allOf p s ≡ eqb (cond t (suc (run p s)) 0) (suc (length s))
     by true h = h ∙ sym (eqb·suc-suc (run p s) (length s))
     by false h = sym (eqb·zero-suc (length s))
+
+pub all-drop : (p : ℕ → Bool) (k : ℕ) (s : List ℕ) → allOf p s ≡ true → allOf p (drop k s) ≡ true
+unfolding allOf
+all-drop p zero s e = e
+all-drop p (suc k) [] e = e
+all-drop p (suc k) (b ∷ s) e = all-drop p k s (and-right (p b) (allOf p s) e)
 
 -- A test of each byte, byte by byte.
 
