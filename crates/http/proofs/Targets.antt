@@ -1,9 +1,9 @@
 -- Laws of targets: what the tests of each step say.
 -- Assumes nothing.
-use Prim.Native.Nat.{ℕ, suc, _+_, _-_, _≤_, _<_}
+use Prim.Native.Nat.{ℕ, _+_, _-_, _≤_, _<_}
 use mathlib.Core.Path.{_≡_, refl, sym, ap, _∙_}
 use mathlib.Core.Bool.{Bool, true, false, cond, not, _&&_}
-use mathlib.Core.List.{List, [], _∷_}
+use mathlib.Core.List.{List}
 use native.Mathlib.Nat.{zero-add}
 use native.Mathlib.Omega.{arith}
 use lib.Dec.{eqb, leb, ltb}
@@ -12,7 +12,6 @@ use lib.Seq.{take-all, drop-drop, length-take-le}
 use borrow.Author.Tests.{eq-eqb, ne-eqb, le-leb, lt-leb, eqb-true, leb-true, leb-false, ltb-true, ltb-false}
 use Rattle.octets.specs.Kinds.{isTarget}
 use Rattle.octets.specs.Scan.{run, other, allOf, count}
-use Rattle.octets.specs.Parts.{Parts, parted, before}
 use Rattle.octets.specs.Copy.{over, Wrote}
 use Rattle.octets.proofs.Bools.{and-left, and-right, and-false}
 use Rattle.octets.proofs.Scans.{run-le, all-run}
@@ -28,16 +27,12 @@ use Rattle.http.specs.Target.{
   noDots,
   segmentsRight,
   decodedRight,
-  Target,
   targetOf,
-  targetOutcome,
   written,
   TargetRead,
   rawOf,
 }
-use Rattle.http.specs.declared.target.Raw.{Raw}
 use Rattle.http.specs.declared.target.Raw.the-variants.{Path as RawPath, Refused as RawRefused}
-use Rattle.http.specs.declared.target.TargetPlace.{TargetPlace}
 use Rattle.http.specs.declared.target.TargetPlace.the-variants.{Path, Refused}
 use Rattle.http.proofs.Escapes.{decoded-le, path-escapes}
 
@@ -227,7 +222,7 @@ module _ (t d : List ℕ) (k n : ℕ) (e : rawOf t ≡ RawPath k n) (room : 4096
     decoded-over : d′ ≡ over d 0 (decoded (pathOf t))
     decoded-over = rw path-part at (w .holds)
 
-    pub same-room : length d′ ≡ length d
+    same-room : length d′ ≡ length d
     same-room = ap length decoded-over ∙ length-over d 0 (decoded (pathOf t)) (omega (arith, decoded-room))
 
     pub front-inside : r ≤ length d′

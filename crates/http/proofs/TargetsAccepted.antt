@@ -2,13 +2,13 @@
 -- Assumes nothing.
 use Prim.Native.Nat.{ℕ, _+_, _≤_}
 use mathlib.Core.Path.{_≡_, refl, sym, ap, _∙_}
-use mathlib.Core.Bool.{Bool, true, false, cond, not, _&&_}
+use mathlib.Core.Bool.{Bool, true, false, cond, _&&_}
 use mathlib.Core.List.{List, [], _∷_}
 use native.Mathlib.Omega.{arith}
 use lib.Dec.{eqb}
-use lib.ListN.{length, drop, getD}
+use lib.ListN.{length, take, drop, getD}
 use borrow.Author.Tests.{eqb-true}
-use Rattle.octets.specs.Outcome.{Outcome, refused, gives, need}
+use Rattle.octets.specs.Outcome.{gives}
 use Rattle.octets.specs.Kinds.{isDigit, isLetter, isTarget}
 use Rattle.octets.specs.Scan.{run, other, allOf, count}
 use Rattle.octets.specs.Lists.{NoNul}
@@ -132,3 +132,16 @@ unfolding targetOf
 buffer-path t d d′ k n w =
     let r : rawRight t ≡ true = need-gives (rawRight t) 14 _ _ (sym (w .answer)) .0 in
     w .buffer ∙ rw r
+
+-- What an answer that tells lengths says.
+
+module _ (t d d′ : List ℕ) (k n : ℕ) (room : 4096 ≤ length d) (w : TargetRead t d d′ (Path k n)) where
+  pub read-accepted : Accepted t (record { path = take n d′; query = drop (k + 1) t })
+  read-accepted = accepted t _ (sym (w .answer))
+
+  pub path-within : k ≤ length t
+  path-within = omega (arith, w .measured .0, path-length t, run-le (other 63) t)
+
+  pub decoded-within : n ≤ length d′
+  decoded-within =
+      omega (arith, w .measured .1, decoded-path-le t, read-accepted .raw .short, buffer-length t d d′ (Path k n) room w)

@@ -11,7 +11,7 @@ use Rattle.octets.specs.Outcome.{Outcome, refused, gives, need}
 use Rattle.octets.specs.Kinds.{isTarget}
 use Rattle.octets.specs.Scan.{run, other, allOf, count}
 use Rattle.octets.specs.Compare.{sameBytes}
-use Rattle.octets.specs.Parts.{Parts, parted}
+use Rattle.octets.specs.Parts.{parted}
 use Rattle.octets.specs.Copy.{over}
 use Rattle.http.specs.Escape.{escapesRight, decoded}
 use Rattle.http.specs.declared.target.Raw.{Raw}

@@ -20,7 +20,7 @@ pub enum TargetPlace {
 }
 
 // What a target is found to be before it is decoded.
-pub enum Raw {
+enum Raw {
     Path { path_len: usize, slashes: usize },
     Refused(u8),
 }

@@ -8,12 +8,13 @@ use native.Mathlib.Omega.{arith}
 use borrow.Author.Needs.{needs}
 use Rattle.http.proofs.escape.hex_value.Statement.{statement}
 use Rattle.http.proofs.escape.hex_value.Tie as tie
-use Rattle.http.proofs.escape.hex_value.Reads as reads
-use Rattle.http.proofs.escape.hex_value.Lts as lts
 
 returns : tie.Need-returns
 unfolding hexValue isDigit
-returns c = let h : c .before .args .b < 65 = omega arith in let k : c .before .args .b < 97 = omega arith in search tests
+returns c =
+    let h : c .before .args .b < 65 = omega arith in
+    let k : c .before .args .b < 97 = omega arith in
+    search tests
 
 returns-2 : tie.Need-returns-2
 unfolding hexValue isDigit
@@ -21,7 +22,9 @@ returns-2 c = search tests
 
 returns-3 : tie.Need-returns-3
 unfolding hexValue isDigit
-returns-3 c = let k : c .before .before .before .args .b < 97 = omega arith in search tests
+returns-3 c =
+    let k : c .before .before .before .args .b < 97 = omega arith in
+    search tests
 
 add-result : tie.Need-add-result
 add-result c = search needs
