@@ -61,6 +61,11 @@ cases =
     ∷ record { input = replicate 64 47; answer = gives (record { path = replicate 64 47; query = [] }) }
     ∷ record { input = replicate 65 47; answer = refused 14 }
     ∷ record { input = replicate 64 47 ++ bytes "?/"; answer = gives (record { path = replicate 64 47; query = bytes "/" }) }
+    ∷ record {
+      input = 47 ∷ replicate 4095 97;
+      answer = gives (record { path = 47 ∷ replicate 4095 97; query = [] });
+    }
+    ∷ record { input = 47 ∷ replicate 4096 97; answer = refused 14 }
     ∷ []
 
 pub all-right : map (λ c. targetOf (c .input)) cases ≡ map (λ c. c .answer) cases
