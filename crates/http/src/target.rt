@@ -1,6 +1,8 @@
 // A request's target: the rules it obeys, its path and query.
 ghost use mathlib.Core.Path.{_≡_};
+ghost use mathlib.Core.Bool.{cond};
 ghost use Prim.Native.Nat.{_≤_};
+ghost use lib.Dec.{eqb};
 ghost use lib.ListN.{length};
 ghost use Rattle.octets.specs.KindTable.{table};
 ghost use Rattle.octets.specs.Scan.{count, allOf};
@@ -25,6 +27,16 @@ enum Raw {
     Refused(u8),
 }
 
+// One for a slash, none for another byte.
+fn slash(b: u8) -> usize
+    ensures { λ r. ⌜ r ≡ cond (eqb b 47) 1 0 ⌝ }
+{
+    if b == b'/' {
+        return 1;
+    }
+    0
+}
+
 // How many slashes s has.
 fn slashes(s: &[u8]) -> usize
     ensures { λ r. ⌜ r ≡ count 47 (now (s .entry)) ⌝ }
@@ -32,9 +44,7 @@ fn slashes(s: &[u8]) -> usize
     let mut n: usize = 0;
     let mut i: usize = 0;
     while i < s.len() {
-        if s[i] == b'/' {
-            n += 1;
-        }
+        n += slash(s[i]);
         i += 1;
     }
     n

@@ -7,7 +7,6 @@ use Prim.Native.Nat.{ℕ, zero, suc, _+_, _≤_, _<_}
 use native.Mathlib.Omega.{arith}
 use lib.Dec.{eqb, eqb·suc-suc, eqb·zero-suc}
 use lib.ListN.{length, drop, getD, length-drop, drop-of-length-le}
-use borrow.Author.Tests.{eq-eqb, ne-eqb}
 use Rattle.octets.specs.Scan.{run, allOf, count}
 use Rattle.octets.proofs.Bools.{and-right}
 use Rattle.octets.proofs.Lists.{next}
@@ -73,14 +72,24 @@ module _ (p : ℕ → Bool) (s : List ℕ) (i : ℕ) where
 -- A count, byte by byte.
 
 module _ (x : ℕ) (s : List ℕ) (i : ℕ) where
-  pub count-hit : i < length s → getD s i 0 ≡ x → count x (drop i s) ≡ suc (count x (drop (i + 1) s))
+  pub count-next : i < length s → count x (drop i s) ≡ cond (eqb (getD s i 0) x) 1 0 + count x (drop (i + 1) s)
   unfolding count
-  count-hit h e = ap (count x) (next s i h) ∙ simp (eq-eqb _ _ e)
-
-  pub count-miss : i < length s → (getD s i 0 ≡ x → ⊥) → count x (drop i s) ≡ count x (drop (i + 1) s)
-  unfolding count
-  count-miss h e = ap (count x) (next s i h) ∙ simp (ne-eqb _ _ e)
+  count-next h = ap (count x) (next s i h) ∙ by (eqb (getD s i 0) x)
+    where
+      by :
+          (t : Bool) → cond t (suc (count x (drop (i + 1) s))) (count x (drop (i + 1) s)) ≡ cond t 1 0 + count x (drop (i + 1) s)
+      by true = omega arith
+      by false = omega arith
 
   pub count-none : length s ≤ i → count x (drop i s) ≡ 0
   unfolding count
   count-none h = rw (drop-of-length-le s h)
+
+pub count-le : (x : ℕ) (s : List ℕ) → count x s ≤ length s
+unfolding count
+count-le x [] = omega arith
+count-le x (b ∷ s) = by (eqb b x) (count-le x s)
+  where
+    by : (t : Bool) → count x s ≤ length s → cond t (suc (count x s)) (count x s) ≤ suc (length s)
+    by true h = omega arith
+    by false h = omega arith
