@@ -4,3 +4,7 @@ pub mod Requests
 pub mod FieldLines
 pub mod Places
 pub mod Worked
+pub mod Escapes
+pub mod Targets
+pub mod TargetsAccepted
+pub mod TargetsWorked

@@ -2,3 +2,5 @@ pub mod Head
 pub mod Lines
 pub mod RequestLine
 pub mod Fields
+pub mod Escape
+pub mod Target

@@ -127,3 +127,14 @@ unfolding over
 front-stays d n h =
     let l : 0 + length (take n d) ≡ n = simp length-take (omega arith) in
     rw l (sym (take-append-drop n d))
+
+-- the first byte of a piece, and then the rest
+pub first-then : (d : List ℕ) (at b : ℕ) (p : List ℕ) → at < length d → over d at (b ∷ p) ≡ over (set d at b) (at + 1) p
+first-then d at b p h = sym (rw (one-byte d at b h) (over-over d at (b ∷ []) (omega arith) p))
+
+-- what stands behind a piece is as it was
+pub over-rest :
+    (d : List ℕ) (at : ℕ) (p : List ℕ) → at + length p ≤ length d → (n : ℕ) → at + length p ≤ n → drop n (over d at p) ≡ drop n d
+over-rest d at p room n h =
+    let e : at + length p + (n - (at + length p)) ≡ n = omega arith in
+    ap (λ (m : ℕ). drop m (over d at p)) (sym e) ∙ after d at p room (n - (at + length p)) ∙ ap (λ (m : ℕ). drop m d) e

@@ -1,15 +1,16 @@
 -- Laws of runs, for loops that go byte by byte and for lists that are parted at a byte.
 -- Assumes nothing.
-use mathlib.Core.Path.{_≡_, sym, ap, _∙_}
+use mathlib.Core.Path.{_≡_, refl, sym, ap, _∙_}
 use mathlib.Core.Bool.{Bool, true, false, cond, _&&_}
 use mathlib.Core.List.{List, [], _∷_}
 use Prim.Native.Nat.{ℕ, zero, suc, _+_, _≤_, _<_}
 use native.Mathlib.Omega.{arith}
-use lib.Dec.{leb, leb·zero, leb·suc-zero, leb·suc-suc}
 use native.Mathlib.Nat.{le-refl}
+use lib.Dec.{leb, leb·zero, leb·suc-zero, leb·suc-suc, eqb, eqb·suc-suc, eqb·zero-suc}
 use lib.Seq.{take-length}
 use lib.ListN.{length, take, drop, getD, length-drop, drop-of-length-le}
-use Rattle.octets.specs.Scan.{run, allOf}
+use Rattle.octets.specs.Scan.{run, allOf, count}
+use Rattle.octets.proofs.Bools.{and-right}
 use Rattle.octets.proofs.Lists.{next}
 
 module _ (p : ℕ → Bool) (s : List ℕ) (i : ℕ) where
@@ -51,3 +52,60 @@ all-take p (b ∷ s) (suc n) h = by (p b) (all-take p s n (omega arith))
 
 pub all-run : (p : ℕ → Bool) (s : List ℕ) → allOf p s ≡ leb (length s) (run p s)
 all-run p s = ap (allOf p) (sym (take-length s)) ∙ all-take p s (length s) (le-refl (length s))
+
+-- the same, as an equation
+pub all-same-run : (p : ℕ → Bool) (s : List ℕ) → allOf p s ≡ eqb (run p s) (length s)
+unfolding run allOf
+all-same-run p [] = refl
+all-same-run p (b ∷ s) = by (p b) (all-same-run p s)
+  where
+    by :
+        (t : Bool) → allOf p s ≡ eqb (run p s) (length s) → t && allOf p s ≡ eqb (cond t (suc (run p s)) 0) (suc (length s))
+    by true h = h ∙ sym (eqb·suc-suc (run p s) (length s))
+    by false h = sym (eqb·zero-suc (length s))
+
+pub all-drop : (p : ℕ → Bool) (k : ℕ) (s : List ℕ) → allOf p s ≡ true → allOf p (drop k s) ≡ true
+unfolding allOf
+all-drop p zero s e = e
+all-drop p (suc k) [] e = e
+all-drop p (suc k) (b ∷ s) e = all-drop p k s (and-right (p b) (allOf p s) e)
+
+-- A test of each byte, byte by byte.
+
+module _ (p : ℕ → Bool) (s : List ℕ) (i : ℕ) where
+  pub all-stop : i < length s → p (getD s i 0) ≡ false → allOf p (drop i s) ≡ false
+  unfolding allOf
+  all-stop h e = ap (allOf p) (next s i h) ∙ simp e
+
+  pub all-more : i < length s → p (getD s i 0) ≡ true → allOf p (drop i s) ≡ allOf p (drop (i + 1) s)
+  unfolding allOf
+  all-more h e = ap (allOf p) (next s i h) ∙ simp e
+
+  pub all-none : length s ≤ i → allOf p (drop i s) ≡ true
+  unfolding allOf
+  all-none h = rw (drop-of-length-le s h)
+
+-- A count, byte by byte.
+
+module _ (x : ℕ) (s : List ℕ) (i : ℕ) where
+  pub count-next : i < length s → count x (drop i s) ≡ cond (eqb (getD s i 0) x) 1 0 + count x (drop (i + 1) s)
+  unfolding count
+  count-next h = ap (count x) (next s i h) ∙ by (eqb (getD s i 0) x)
+    where
+      by :
+          (t : Bool) → cond t (suc (count x (drop (i + 1) s))) (count x (drop (i + 1) s)) ≡ cond t 1 0 + count x (drop (i + 1) s)
+      by true = omega arith
+      by false = omega arith
+
+  pub count-none : length s ≤ i → count x (drop i s) ≡ 0
+  unfolding count
+  count-none h = rw (drop-of-length-le s h)
+
+pub count-le : (x : ℕ) (s : List ℕ) → count x s ≤ length s
+unfolding count
+count-le x [] = omega arith
+count-le x (b ∷ s) = by (eqb b x) (count-le x s)
+  where
+    by : (t : Bool) → count x s ≤ length s → cond t (suc (count x s)) (count x s) ≤ suc (length s)
+    by true h = omega arith
+    by false h = omega arith

@@ -2,11 +2,13 @@
 // spool ends. What the bytes in the window give, and whether the window goes on, is decided by scgi::window::advance.
 ghost use Prim.Native.Nat.{_≤_};
 ghost use lib.ListN.{length};
-
-use libc::{STDERR_FILENO, STDIN_FILENO, STDOUT_FILENO};
+use libc::STDERR_FILENO;
+use libc::STDIN_FILENO;
+use libc::STDOUT_FILENO;
 use octets::copy::move_front;
 use octets::decimal;
-use scgi::window::{advance, Next};
+use scgi::window::Next;
+use scgi::window::advance;
 
 // How the reading stands.
 pub enum Input {
