@@ -1,0 +1,1 @@
+// What the gateway is lent: connection facts, site settings and mounts.
