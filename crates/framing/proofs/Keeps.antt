@@ -44,6 +44,17 @@ pub kept : {A : Type 0} {o o′ : Outcome A} → Keeps o o′ → (o ≡ refused
 kept was-cut h = absurd (h refl)
 kept same h = refl
 
+-- what stays unless it is 1 keeps its answer
+pub keeps-unless : {A : Type 0} (o o′ : Outcome A) → ((o ≡ refused 1 → ⊥) → o′ ≡ o) → Keeps o o′
+keeps-unless (gives a) o′ h = rw (h (λ r. let z : _≡_ {A = ℕ} 0 1 = cc in omega arith)) same
+keeps-unless (refused n) o′ h = by (eqb n 1) refl
+  where
+    by : (t : Bool) → eqb n 1 ≡ t → Keeps (refused n) o′
+    by true t =
+        let z : n ≡ 1 = eqb-true n 1 t in
+        rw z was-cut
+    by false t = rw (h (λ r. eqb-false n 1 t (cc))) same
+
 -- a reader whose answers stay when bytes are added, and which uses a byte or more of those that are there
 pub record Steady {A : Type 0} (read : List ℕ → Outcome A) (used : A → ℕ) : Type 0 where
   pub more : (s t : List ℕ) → (read s ≡ refused 1 → ⊥) → read (s ++ t) ≡ read s

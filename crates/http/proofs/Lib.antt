@@ -3,6 +3,7 @@ pub mod LineCuts
 pub mod Requests
 pub mod FieldLines
 pub mod Places
+pub mod Numbers
 pub mod Worked
 pub mod Escapes
 pub mod Targets

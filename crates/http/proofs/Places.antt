@@ -15,7 +15,8 @@ use lib.Seq.{getD-set-same, getD-set-other, drop-set-lt, drop-drop, append-snoc}
 use borrow.Author.Tests.{leb-true}
 use Rattle.octets.proofs.Outcomes.{given-gives}
 use Rattle.octets.proofs.Lists.{part-take}
-use Rattle.http.specs.Fields.{Field, fieldOf, ahead, eachField, fieldsIn, fieldAt, fieldsAt, Inside, AllInside, Stored}
+use Rattle.octets.specs.Outcome.{gives}
+use Rattle.http.specs.Fields.{Field, fieldOf, ahead, eachField, fieldsIn, fieldsOf, fieldAt, fieldsAt, Inside, AllInside, Stored}
 use Rattle.http.specs.declared.fields.Fields.the-variants.{Count, Refused}
 
 -- FOR CALLERS: the next of n fields, the one with number k
@@ -267,3 +268,11 @@ stored-count {rule} {lines} {head} {d} {out} {n} r = by (leb (length lines) 64) 
     by : (t : Bool) → leb (length lines) 64 ≡ t → cond t (eachField rule lines) none ≡ some (fieldsAt head out 0 n) → (n ≡ length lines) × (n ≤ 64)
     by true q e = omega (arith, each-length rule lines (fieldsAt head out 0 n) e, fields-length head out n 0, leb-true (length lines) 64 q)
     by false q e = let z : _≡_ {A = ℕ} 0 1 = cc in omega arith
+
+-- FOR CALLERS: fields are at most 64
+pub fields-few : (rule : ℕ → Bool) (lines : List (List ℕ)) (fs : List Field) → fieldsOf rule lines ≡ gives fs → length fs ≤ 64
+fields-few rule lines fs e = by (leb (length lines) 64) refl (given-gives (fieldsIn 64 rule lines) 15 fs e)
+  where
+    by : (t : Bool) → leb (length lines) 64 ≡ t → cond t (eachField rule lines) none ≡ some fs → length fs ≤ 64
+    by true q f = omega (arith, each-length rule lines fs f, leb-true (length lines) 64 q)
+    by false q f = let z : _≡_ {A = ℕ} 0 1 = cc in omega arith

@@ -14,9 +14,9 @@ use Rattle.octets.specs.Kinds.{isDigit, isLetter, isToken, within}
 use Rattle.octets.specs.Scan.{run, allOf, other}
 use Rattle.octets.specs.Compare.{sameBytes}
 use Rattle.octets.specs.Parts.{Parts, parted, before}
-use Rattle.octets.specs.Lists.{All, _&_, Without}
+use Rattle.octets.specs.Lists.{All, _&_, Without, NoNul}
 use Rattle.octets.proofs.Bools.{and-right}
-use Rattle.octets.proofs.Alls.{all-without}
+use Rattle.octets.proofs.Alls.{all-without, no-nul}
 use Rattle.octets.proofs.Compares.{same-true}
 use Rattle.octets.proofs.Outcomes.{need-gives, then-gives}
 use Rattle.octets.proofs.Scans.{all-run}
@@ -206,3 +206,16 @@ line-made line f r =
     ap (parted 32) (r .parts) ∙ part-ended 32 (f .method) _ (method-space _ (r .method))
     ∙ rw (part-ended 32 (f .target) (f .version) (r .target), last-one (f .version) (served-space _ (r .served))) in
     ap partsOutcome p ∙ rw (r .method, r .version, r .served)
+
+-- FOR CALLERS: no NUL in a method, nor in a version
+pub method-no-nul : (m : List ℕ) → isMethod m ≡ true → NoNul m
+unfolding isMethod isToken isDigit isLetter
+method-no-nul m e = all-without isToken 0 m refl (and-right (within 1 32 (length m)) (allOf isToken m) e)
+
+pub served-no-nul : (v : List ℕ) → isServed v ≡ true → NoNul v
+served-no-nul v = by (sameBytes v (bytes "HTTP/1.0")) (sameBytes v (bytes "HTTP/1.1")) refl refl
+  where
+    by : (t u : Bool) → sameBytes v (bytes "HTTP/1.0") ≡ t → sameBytes v (bytes "HTTP/1.1") ≡ u → t || u ≡ true → NoNul v
+    by true u p q e = rw (same-true v (bytes "HTTP/1.0") p) (no-nul (bytes "HTTP/1.0") refl)
+    by false true p q e = rw (same-true v (bytes "HTTP/1.1") q) (no-nul (bytes "HTTP/1.1") refl)
+    by false false p q e = absurd (false≢true e)

@@ -1,6 +1,6 @@
 -- What holds of each entry of a list, and equal lists that are parted at a byte or at a length.
 -- Assumes nothing.
-use Prim.Native.Nat.{ℕ}
+use Prim.Native.Nat.{ℕ, zero, suc}
 use mathlib.Core.Path.{_≡_, refl, sym, ap, _∙_}
 use mathlib.Core.Bool.{Bool, true, false, false≢true, not, _&&_}
 use mathlib.Core.List.{List, [], _∷_, _++_, map}
@@ -54,3 +54,15 @@ unfolding allOf
 all-without p x [] f e = no-more
 all-without p x (b ∷ s) f e =
     (λ q. false≢true (sym f ∙ ap p (sym q) ∙ and-left (p b) (allOf p s) e)) & all-without p x s f (and-right (p b) (allOf p s) e)
+
+-- a test of each byte, as what holds of each
+pub all-each : (p : ℕ → Bool) (s : List ℕ) → allOf p s ≡ true → All (λ b. p b ≡ true) s
+unfolding allOf
+all-each p [] e = no-more
+all-each p (b ∷ s) e = and-left (p b) (allOf p s) e & all-each p s (and-right (p b) (allOf p s) e)
+
+-- what holds of each holds of those after the first k
+pub all-after : {A : Type 0} {P : A → Type 0} (k : ℕ) (l : List A) → All P l → All P (drop k l)
+all-after zero l p = p
+all-after (suc k) [] no-more = no-more
+all-after (suc k) (a ∷ l) (p & ps) = all-after k l ps

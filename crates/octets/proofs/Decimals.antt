@@ -11,6 +11,7 @@ use lib.Dec.{leb, ltb, eqb}
 use lib.ListN.{length, length-append}
 use borrow.Author.Tests.{ltb-true, ltb-false, lt-ltb, le-ltb, le-leb, leb-true, eqb-true, eqb-false}
 use Rattle.octets.specs.Kinds.{isDigit}
+use Rattle.octets.specs.Scan.{allOf}
 use Rattle.octets.specs.Decimal.{numberFrom, numberOf, digitsIn, decimal, Says, plain, zero-before}
 use Rattle.octets.proofs.Bools.{and-left, and-right}
 
@@ -247,3 +248,17 @@ unfolding tens
 twenty-digits n h =
     let t : length (decimal n) ≤ 20 = at-most 19 n (omega arith) in
     t
+
+-- Its bytes are digits.
+
+digit-is : (n : ℕ) → n < 10 → isDigit (48 + n) ≡ true
+unfolding isDigit
+digit-is n h = rw (le-leb 48 (48 + n) (omega arith), le-leb (48 + n) 57 (omega arith))
+
+pub decimal-digits : (n : ℕ) → allOf isDigit (decimal n) ≡ true
+unfolding allOf
+decimal-digits n =
+    digits (λ n s t. allOf isDigit s ≡ true → allOf isDigit t ≡ true)
+    (λ n s h e. rw (digit-is n h, e))
+    (λ n s t h ih e. ih (rw (digit-is (n % 10) (omega arith), e)))
+    n n [] (omega arith) refl

@@ -2,9 +2,11 @@ pub mod Lists
 pub mod Bools
 pub mod Tests
 pub mod Outcomes
+pub mod Refusals
 pub mod Alls
 pub mod Table
 pub mod KindTable
+pub mod ByteRules
 pub mod Scans
 pub mod Trims
 pub mod Parting

@@ -23,10 +23,11 @@ use Rattle.scgi.specs.Spool.{requestsOf}
 use Rattle.scgi.specs.Window.{nextOf, largest}
 use Rattle.scgi.specs.Claims.{LargestRequest}
 use Rattle.scgi.specs.declared.window.Next.the-variants.{More, Again, Refused as NextRefused}
+use Rattle.octets.proofs.Refusals.{number-of}
 use Rattle.scgi.proofs.Reader.{spools-hold}
 use Rattle.scgi.proofs.Lengths.{written}
 use Rattle.scgi.proofs.Checks.{check-bound}
-use Rattle.scgi.proofs.Numbers.{number-of, check-numbers}
+use Rattle.scgi.proofs.Numbers.{check-numbers}
 
 -- Length digits that end too soon.
 

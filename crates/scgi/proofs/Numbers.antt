@@ -1,18 +1,18 @@
--- Which numbers a chain of refusals can give.
+-- Which numbers the reader and the writer can give.
 -- Assumes nothing.
 use Prim.Native.Nat.{ℕ, _+_, _*_, _-_}
 use mathlib.Core.Path.{_≡_, refl}
 use mathlib.Core.Bool.{Bool, true, false, cond, not, _&&_}
 use mathlib.Core.List.{List, [], _∷_}
-use mathlib.Core.Option.{Option, none, some}
 use lib.Dec.{eqb, leb, ltb}
 use lib.ListN.{length, getD, take, drop}
 use Rattle.octets.specs.Text.{bytes}
-use Rattle.octets.specs.Outcome.{Outcome, refused, gives, then, need, given}
+use Rattle.octets.specs.Outcome.{Outcome, refused, gives, need}
 use Rattle.octets.specs.Kinds.{oneOf, isDigit}
 use Rattle.octets.specs.Compare.{sameBytes}
 use Rattle.octets.specs.Lists.{different}
 use Rattle.octets.specs.Decimal.{numberOf}
+use Rattle.octets.proofs.Refusals.{Refuses, with-number, not-refused, number-of, refuses-then, refuses-need, refuses-given}
 use Rattle.scgi.specs.Block.{Header, names, headersOf}
 use Rattle.scgi.specs.Grammar.{scgi1}
 use Rattle.scgi.specs.Check.{statedBy, has, checkBlock}
@@ -21,28 +21,7 @@ use Rattle.scgi.specs.Read.{readOf}
 use Rattle.scgi.specs.Write.{toWrite, writeOf}
 use Rattle.scgi.specs.Claims.{readNumbers, writeNumbers, NumbersHold}
 
--- a refusal's number is one of ns
-pub data Refuses (ns : List ℕ) {A : Type 0} : Outcome A → Type 0 where
-  with-number : {n : ℕ} → oneOf ns n ≡ true → Refuses ns (refused n)
-  not-refused : {a : A} → Refuses ns (gives a)
-
-pub number-of : {ns : List ℕ} {A : Type 0} {o : Outcome A} (n : ℕ) → Refuses ns o → o ≡ refused n → oneOf ns n ≡ true
-number-of n (with-number h) e = cc
-number-of n not-refused e = cc
-
 module _ {ns : List ℕ} where
-  pub refuses-then : {A B : Type 0} {o : Outcome A} {f : A → Outcome B} → Refuses ns o → ((a : A) → Refuses ns (f a)) → Refuses ns (then o f)
-  refuses-then (with-number h) k = with-number h
-  refuses-then (not-refused {a}) k = k a
-
-  pub refuses-need : {A : Type 0} {o : Outcome A} (t : Bool) (n : ℕ) → oneOf ns n ≡ true → Refuses ns o → Refuses ns (need t n o)
-  refuses-need true n h k = k
-  refuses-need false n h k = with-number h
-
-  pub refuses-given : {A : Type 0} (o : Option A) (n : ℕ) → oneOf ns n ≡ true → Refuses ns (given o n)
-  refuses-given none n h = with-number h
-  refuses-given (some a) n h = not-refused
-
   -- a block's checks, where 5 to 10 are among the numbers
   module _ (five : oneOf ns 5 ≡ true) (six : oneOf ns 6 ≡ true) (seven : oneOf ns 7 ≡ true) (eight : oneOf ns 8 ≡ true) (nine : oneOf ns 9 ≡ true) (ten : oneOf ns 10 ≡ true) where
     stated-numbers : (hs : List Header) → Refuses ns (statedBy hs)

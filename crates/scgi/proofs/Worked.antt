@@ -1,4 +1,4 @@
--- The cases that 01 marks W for the reader, as one statement over one list; further cases, and the writer's.
+-- Cases of the reader that 01 settles by its words, and the writer's. Those that 01 marks W stand with the gateway's.
 -- Assumes nothing.
 use Prim.Native.Nat.{ℕ}
 use Prim.Native.String.{String}
@@ -29,33 +29,6 @@ pub record Case : Type 0 where
   pub input : String
   pub answer : Outcome Places
 
--- source document 001's example: 70 block bytes, 27 body bytes, 101 used
-abbrev pub example : Places
-example = record { blockStart = 3; blockLength = 70; bodyStart = 74; bodyLength = 27; used = 101 }
-
-unfoldable pub cases : List Case
-cases =
-    record { input = ""; answer = refused 1 }
-    ∷ record { input = "0"; answer = refused 1 }
-    ∷ record { input = "05"; answer = refused 2 }
-    ∷ record { input = ":"; answer = refused 2 }
-    ∷ record { input = "16385"; answer = refused 3 }
-    ∷ record { input = "0:,"; answer = refused 8 }
-    ∷ record { input = "0:x"; answer = refused 4 }
-    ∷ record {
-      input = "70:CONTENT_LENGTH|27|SCGI|1|REQUEST_METHOD|POST|REQUEST_URI|/deepthought|,What is the answer to life?";
-      answer = gives example;
-    }
-    ∷ record {
-      input = "70:CONTENT_LENGTH|27|SCGI|1|REQUEST_METHOD|POST|REQUEST_URI|/deepthought|,What is the answer to life";
-      answer = refused 1;
-    }
-    ∷ record {
-      input = "70:CONTENT_LENGTH|27|SCGI|1|REQUEST_METHOD|POST|REQUEST_URI|/deepthought|,What is the answer to life?x";
-      answer = gives example;
-    }
-    ∷ []
-
 -- cases that 01 settles by its words, and that are easy to slip on
 unfoldable pub further : List Case
 further =
@@ -83,10 +56,6 @@ further =
       answer = gives (record { blockStart = 3; blockLength = 27; bodyStart = 31; bodyLength = 2; used = 33 });
     }
     ∷ []
-
-pub all-right : map (λ c. readOf (barred (c .input))) cases ≡ map (λ c. c .answer) cases
-unfolding cases readOf lengthFrom checkBlock parted paired different isIn sameBytes numberFrom isDigit has
-all-right = refl
 
 pub further-right : map (λ c. readOf (barred (c .input))) further ≡ map (λ c. c .answer) further
 unfolding further readOf lengthFrom checkBlock parted paired different isIn sameBytes numberFrom isDigit has

@@ -1,0 +1,11 @@
+pub mod Proper
+pub mod NameBytes
+pub mod Variables
+pub mod Names
+pub mod Grouping
+pub mod Links
+pub mod Accepted
+pub mod Exactly
+pub mod Pipelines
+pub mod Numbers
+pub mod Claims

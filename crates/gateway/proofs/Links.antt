@@ -1,0 +1,128 @@
+-- What an accepted request says of the links of the step's chain.
+-- Assumes nothing.
+use Prim.Native.Nat.{ℕ, _+_, _-_, _≤_}
+use mathlib.Core.Path.{_≡_, refl, ap, sym}
+use mathlib.Core.List.{List}
+use mathlib.Core.Option.{some}
+use lib.Dec.{leb}
+use lib.ListN.{length, take, drop}
+use borrow.Author.Tests.{leb-true}
+use Rattle.octets.specs.Outcome.{Outcome, gives, need, given}
+use Rattle.octets.specs.Kinds.{isName}
+use Rattle.octets.proofs.Outcomes.{need-gives, given-gives, then-gives}
+use Rattle.scgi.specs.Block.{Header, printed}
+use Rattle.http.specs.Head.{headOf}
+use Rattle.http.specs.Lines.{linesOf}
+use Rattle.http.specs.RequestLine.{FirstLine, requestLineOf}
+use Rattle.http.specs.Target.{Target, targetOf}
+use Rattle.http.specs.Fields.{Field, fieldsOf}
+use Rattle.lent.specs.Settings.{Settings}
+use Rattle.lent.specs.Mounts.{Route}
+use Rattle.gateway.specs.Fields.{lowered}
+use Rattle.gateway.specs.Meaning.{Meaning, meaningOf}
+use Rattle.gateway.specs.Variables.{variables, bytesOf}
+use Rattle.gateway.specs.Step.{rulesOf, Request, requestOf, Body, bodyOf, Known, routeOf, poolOf, Forward, writtenFor, forwardOf, stepWith}
+
+gives-once : {A : Type 0} (a b : A) → gives a ≡ gives b → a ≡ b
+gives-once a b e = cc
+
+-- of a head
+pub record RequestLinks (head : List ℕ) (q : Request) : Type 0 where
+  pub target : Target
+  pub line-read : requestLineOf (linesOf head .first) ≡ gives (q .first)
+  pub target-read : targetOf (q .first .target) ≡ gives target
+  pub path : q .path ≡ target .path
+  pub fields-read : fieldsOf isName (linesOf head .others) ≡ gives (q .fields)
+
+links-at :
+    (head : List ℕ) (q : Request) (first : FirstLine) (t : Target) (fields : List Field) (n : ℕ) → requestLineOf (linesOf head .first) ≡ gives first
+    → targetOf (first .target) ≡ gives t → fieldsOf isName (linesOf head .others) ≡ gives fields
+    → record { first = first; path = t .path; fields = fields; bodyLength = n } ≡ q → RequestLinks head q
+links-at head q first t fields n a b c z = rw (← z) (record { target = t; line-read = a; target-read = b; path = refl; fields-read = c })
+
+pub request-links : (head : List ℕ) (q : Request) → requestOf head ≡ gives q → RequestLinks head q
+unfolding requestOf
+request-links head q e =
+    let a = then-gives (requestLineOf (linesOf head .first)) _ q e in
+    let b = then-gives (targetOf (a .it .target)) _ q (a .next) in
+    let c = then-gives (fieldsOf isName (linesOf head .others)) _ q (b .next) in
+    let d = then-gives (rulesOf (a .it .version) (lowered (c .it))) _ q (c .next) in
+    links-at head q (a .it) (b .it) (c .it) (d .it) (a .first) (b .first) (c .first) (gives-once _ q (d .next))
+
+-- of a body
+pub record BodyLinks (http : List ℕ) (h n : ℕ) (b : Body) : Type 0 where
+  pub limit : n ≤ 1048576
+  pub there : h + n ≤ length http
+  pub is : b ≡ record { body = take n (drop h http); used = h + n }
+
+pub body-links : (http : List ℕ) (h n : ℕ) (b : Body) → bodyOf http h n ≡ gives b → BodyLinks http h n b
+unfolding bodyOf
+body-links http h n b e =
+    let c = need-gives (leb n 1048576) 9 _ b e in
+    let d = need-gives (leb (h + n) (length http)) 1 _ b (c .1) in
+    record { limit = leb-true n 1048576 (c .0); there = leb-true (h + n) (length http) (d .0); is = sym (gives-once _ b (d .1)) }
+
+-- of what is written
+pub record WrittenLinks (s : Settings) (r : Route) (m : Meaning) (used : ℕ) (f : Forward) : Type 0 where
+  pub limit : length (printed (variables s r m)) ≤ 16384
+  pub scgi : f .scgi ≡ bytesOf s r m
+  pub used-is : f .used ≡ used
+
+pub written-links : (s : Settings) (r : Route) (m : Meaning) (pool : List ℕ) (used : ℕ) (f : Forward) → writtenFor s r m pool used ≡ gives f → WrittenLinks s r m used f
+unfolding writtenFor
+written-links s r m pool used f e =
+    let c = need-gives (leb (length (printed (variables s r m))) 16384) 22 _ f e in
+    let z : record { scgi = bytesOf s r m; pool = pool; used = used } ≡ f = gives-once _ f (c .1) in
+    record { limit = leb-true _ 16384 (c .0); scgi = ap (λ (x : Forward). x .scgi) (sym z); used-is = ap (λ (x : Forward). x .used) (sym z) }
+
+-- of the chain, where k is what is lent
+pub record Links (k : Known) (http : List ℕ) (f : Forward) : Type 0 where
+  pub h : ℕ
+  pub q : Request
+  pub m : Header
+  pub b : Body
+  pub head : headOf http ≡ gives h
+  pub request : requestOf (take (h - 4) http) ≡ gives q
+  pub mount : k .mount (q .path) ≡ some m
+  pub body : bodyOf http h (q .bodyLength) ≡ gives b
+  pub written : WrittenLinks (k .settings) (routeOf m (q .path)) (meaningOf (q .first) (q .fields) (b .body)) (b .used) f
+
+pub links : (k : Known) (http : List ℕ) (f : Forward) → forwardOf (gives k) http ≡ gives f → Links k http f
+unfolding forwardOf
+links k http f e =
+    let c = then-gives (headOf http) _ f e in
+    let d = then-gives (requestOf (take (c .it - 4) http)) _ f (c .next) in
+    let q : Request = d .it in
+    let g = then-gives (given (k .mount (q .path)) 19) _ f (d .next) in
+    let i = then-gives (bodyOf http (c .it) (q .bodyLength)) _ f (g .next) in
+    record {
+      h = c .it;
+      q = q;
+      m = g .it;
+      b = i .it;
+      head = c .first;
+      request = d .first;
+      mount = given-gives (k .mount (q .path)) 19 (g .it) (g .first);
+      body = i .first;
+      written =
+          written-links (k .settings) (routeOf (g .it) (q .path)) (meaningOf (q .first) (q .fields) (i .it .body)) (poolOf (g .it)) (i .it .used) f (i .next);
+    }
+
+-- what is lent where a request is accepted
+pub record Lent (lent : Outcome Known) : Type 0 where
+  pub k : Known
+  pub is : lent ≡ gives k
+
+pub lent-of : (lent : Outcome Known) (http : List ℕ) (f : Forward) → forwardOf lent http ≡ gives f → Lent lent
+unfolding forwardOf
+lent-of lent http f e =
+    let a = then-gives lent _ f e in
+    record { k = a .it; is = a .first }
+
+-- 21 depends on the room alone
+pub without-room : (lent : Outcome Known) (http : List ℕ) (room : ℕ) (f : Forward) → stepWith lent http room ≡ gives f → forwardOf lent http ≡ gives f
+unfolding stepWith
+without-room lent http room f e =
+    let a = then-gives (forwardOf lent http) (λ g. need (leb (length (g .scgi)) room) 21 (gives g)) f e in
+    let c = need-gives (leb (length (a .it .scgi)) room) 21 (gives (a .it)) f (a .next) in
+    rw (← gives-once (a .it) f (c .1)) (a .first)

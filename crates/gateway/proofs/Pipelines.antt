@@ -1,0 +1,66 @@
+-- HTTP requests that stand end to end: more bytes keep the step's answer, and what is cut gives 1.
+-- Assumes nothing.
+use Prim.Native.Nat.{ℕ, _+_, _-_, _≤_, _<_}
+use mathlib.Core.Path.{_≡_, refl, sym, ap, _∙_}
+use mathlib.Core.List.{List, _++_}
+use native.Mathlib.Omega.{arith}
+use lib.Dec.{leb}
+use lib.ListN.{length, take, drop}
+use lib.Seq.{take-append-le}
+use borrow.Author.Tests.{leb-true}
+use Rattle.octets.specs.Outcome.{Outcome, refused, gives, then, given}
+use Rattle.octets.proofs.Lists.{part-more}
+use Rattle.framing.proofs.Keeps.{Keeps, was-cut, same, keeps-then, keeps-cond, keeps-end, keeps-unless, kept, Steady, steady-frames, still-leb}
+use Rattle.framing.proofs.Spools.{spools-equal, spool-cut}
+use Rattle.framing.proofs.SpoolSteps.{spool-goes-on}
+use Rattle.http.specs.Head.{headOf}
+use Rattle.http.proofs.Heads.{head-keeps, head-within}
+use Rattle.gateway.specs.Meaning.{meaningOf}
+use Rattle.gateway.specs.Step.{Request, requestOf, Body, bodyOf, Known, routeOf, poolOf, Forward, writtenFor, forwardOf, usedBy}
+use Rattle.gateway.specs.Claims.{PipelinesFrame}
+use Rattle.gateway.proofs.Links.{body-links, links, lent-of}
+
+keeps-head : (s t : List ℕ) → Keeps (headOf s) (headOf (s ++ t))
+keeps-head s t = keeps-unless (headOf s) (headOf (s ++ t)) (head-keeps s t)
+
+keeps-body : (s t : List ℕ) (h n : ℕ) → Keeps (bodyOf s h n) (bodyOf (s ++ t) h n)
+unfolding bodyOf
+keeps-body s t h n =
+    keeps-cond (leb n 1048576)
+    (keeps-end (leb (h + n) (length s)) (leb (h + n) (length (s ++ t))) (still-leb s t (h + n))
+    (λ x. rw (part-more s t h n (leb-true (h + n) (length s) x)) same))
+    same
+
+-- the chain after what is lent
+after-lent : (k : Known) (s t : List ℕ) → Keeps (forwardOf (gives k) s) (forwardOf (gives k) (s ++ t))
+unfolding forwardOf
+after-lent k s t =
+    keeps-then (keeps-head s t)
+    (λ h e.
+    let w = head-within s h e in
+    rw (take-append-le (h - 4) s t (omega (arith, w .inside)))
+    (keeps-then {o = requestOf (take (h - 4) s)} same
+    (λ q d. keeps-then {o = given (k .mount (q .path)) 19} same
+    (λ m c. keeps-then (keeps-body s t h (q .bodyLength)) (λ b a. same)))))
+
+keeps-forward : (lent : Outcome Known) (s t : List ℕ) → Keeps (forwardOf lent s) (forwardOf lent (s ++ t))
+unfolding forwardOf
+keeps-forward (refused n) s t = same
+keeps-forward (gives k) s t = after-lent k s t
+
+within : (lent : Outcome Known) (s : List ℕ) (f : Forward) → forwardOf lent s ≡ gives f → (0 < f .used) × (f .used ≤ length s)
+within lent s f e =
+    let z = lent-of lent s f e in
+    let l = links (z .k) s f (rw (z .is) at e) in
+    let b = body-links s (l .h) (l .q .bodyLength) (l .b) (l .body) in
+    let u : f .used ≡ l .h + l .q .bodyLength = l .written .used-is ∙ ap (λ (x : Body). x .used) (b .is) in
+    let w = head-within s (l .h) (l .head) in
+    (omega (arith, u, w .last), omega (arith, u, b .there))
+
+steady : (lent : Outcome Known) → Steady (forwardOf lent) (λ f. f .used)
+steady lent = record { more = λ s t h. kept (keeps-forward lent s t) h; within = within lent }
+
+pub pipelines-frame : PipelinesFrame
+pipelines-frame lent =
+    let f = steady-frames (steady lent) in
+    record { frames = f; equal = spools-equal (usedBy lent) f; cut = spool-cut (usedBy lent) f; goes-on = spool-goes-on (usedBy lent) f }

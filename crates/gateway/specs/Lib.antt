@@ -1,0 +1,5 @@
+pub mod Fields
+pub mod Meaning
+pub mod Variables
+pub mod Step
+pub mod Claims

@@ -1,0 +1,1 @@
+// From an HTTP request to SCGI bytes: the definitions and what is claimed of them.
