@@ -1,2 +1,4 @@
 pub mod Settings
 pub mod Mounts
+pub mod Search
+pub mod Claims

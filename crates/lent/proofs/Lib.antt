@@ -1,0 +1,3 @@
+pub mod Mounts
+pub mod Searches
+pub mod Claims
