@@ -9,3 +9,4 @@ pub mod Exactly
 pub mod Pipelines
 pub mod Numbers
 pub mod Claims
+pub mod Puts
