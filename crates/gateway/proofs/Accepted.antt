@@ -1,13 +1,12 @@
 -- What is written for an accepted request: its meaning's variables and body, a request of the SCGI text.
 -- Assumes nothing.
-use Prim.Native.Nat.{ℕ, _+_, _-_, _≤_}
-use mathlib.Core.Path.{_≡_, refl, ap, _∙_}
-use mathlib.Core.Bool.{true}
+use Prim.Native.Nat.{ℕ, _-_, _≤_}
+use mathlib.Core.Path.{_≡_, refl}
 use mathlib.Core.List.{List}
-use mathlib.Core.Option.{Option, some}
+use mathlib.Core.Option.{some}
 use native.Mathlib.Omega.{arith}
 use lib.Dec.{ltb}
-use lib.ListN.{length, take, drop, length-take}
+use lib.ListN.{length, take, length-take}
 use Rattle.octets.specs.Text.{bytes}
 use Rattle.octets.specs.Outcome.{Outcome, gives, then, given}
 use Rattle.octets.specs.Kinds.{isName, isValue}
@@ -17,7 +16,7 @@ use Rattle.octets.specs.Lists.{All, NoNul}
 use Rattle.octets.proofs.Bools.{and-right}
 use Rattle.octets.proofs.Alls.{all-implies, all-each, all-without, all-after}
 use Rattle.octets.proofs.Names.{test-different}
-use Rattle.scgi.specs.Block.{Header, names, printed}
+use Rattle.scgi.specs.Block.{Header, names}
 use Rattle.scgi.specs.Grammar.{first, here, later, IsRequest}
 use Rattle.http.specs.Lines.{linesOf}
 use Rattle.http.specs.Fields.{Field}
@@ -29,7 +28,7 @@ use Rattle.http.proofs.Places.{fields-few}
 use Rattle.lent.specs.Mounts.{Route}
 use Rattle.gateway.specs.Meaning.{Meaning, meaningOf}
 use Rattle.gateway.specs.Variables.{fixed, variables, bytesOf}
-use Rattle.gateway.specs.Step.{bodyOf, Known, routeOf, Forward, meaningAt, forwardOf}
+use Rattle.gateway.specs.Step.{Known, routeOf, Forward, meaningAt, forwardOf}
 use Rattle.gateway.specs.Claims.{ProperSettings}
 use Rattle.gateway.proofs.Proper.{ProperField, ProperMeaning, ProperRoute}
 use Rattle.gateway.proofs.Variables.{variables-proper}

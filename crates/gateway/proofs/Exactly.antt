@@ -5,16 +5,15 @@ use mathlib.Core.Path.{_≡_, refl, sym, ap, _∙_}
 use mathlib.Core.List.{List, [], _++_}
 use native.Mathlib.Nat.{le-refl}
 use lib.ListN.{length}
-use Rattle.octets.specs.Outcome.{Outcome, gives}
+use Rattle.octets.specs.Outcome.{gives}
 use Rattle.scgi.specs.Block.{printed}
 use Rattle.scgi.specs.Write.{writeOf}
-use Rattle.scgi.specs.Claims.{ReadBack}
 use Rattle.scgi.proofs.Claims.{request-once, writes-exactly, write-then-read}
 use Rattle.lent.specs.Mounts.{Route}
 use Rattle.gateway.specs.Meaning.{Meaning}
 use Rattle.gateway.specs.Variables.{variables, bytesOf}
-use Rattle.gateway.specs.Step.{Known, Forward, meaningAt, forwardOf}
-use Rattle.gateway.specs.Claims.{Sound, BytesExactlyMeaning, WrittenFor, WrittenIsAccepted}
+use Rattle.gateway.specs.Step.{Known, meaningAt, forwardOf}
+use Rattle.gateway.specs.Claims.{BytesExactlyMeaning, WrittenIsAccepted}
 use Rattle.gateway.proofs.Variables.{variables-once}
 use Rattle.gateway.proofs.Links.{lent-of, without-room}
 use Rattle.gateway.proofs.Accepted.{routeFor, Account, account}

@@ -8,5 +8,6 @@ pub mod Accepted
 pub mod Exactly
 pub mod Pipelines
 pub mod Numbers
+pub mod Worked
 pub mod Claims
 pub mod Puts

@@ -1,22 +1,21 @@
 -- HTTP requests that stand end to end: more bytes keep the step's answer, and what is cut gives 1.
 -- Assumes nothing.
 use Prim.Native.Nat.{ℕ, _+_, _-_, _≤_, _<_}
-use mathlib.Core.Path.{_≡_, refl, sym, ap, _∙_}
+use mathlib.Core.Path.{_≡_, ap, _∙_}
 use mathlib.Core.List.{List, _++_}
 use native.Mathlib.Omega.{arith}
 use lib.Dec.{leb}
-use lib.ListN.{length, take, drop}
+use lib.ListN.{length, take}
 use lib.Seq.{take-append-le}
 use borrow.Author.Tests.{leb-true}
-use Rattle.octets.specs.Outcome.{Outcome, refused, gives, then, given}
+use Rattle.octets.specs.Outcome.{Outcome, refused, gives, given}
 use Rattle.octets.proofs.Lists.{part-more}
-use Rattle.framing.proofs.Keeps.{Keeps, was-cut, same, keeps-then, keeps-cond, keeps-end, keeps-unless, kept, Steady, steady-frames, still-leb}
+use Rattle.framing.proofs.Keeps.{Keeps, same, keeps-then, keeps-cond, keeps-end, keeps-unless, kept, Steady, steady-frames, still-leb}
 use Rattle.framing.proofs.Spools.{spools-equal, spool-cut}
 use Rattle.framing.proofs.SpoolSteps.{spool-goes-on}
 use Rattle.http.specs.Head.{headOf}
 use Rattle.http.proofs.Heads.{head-keeps, head-within}
-use Rattle.gateway.specs.Meaning.{meaningOf}
-use Rattle.gateway.specs.Step.{Request, requestOf, Body, bodyOf, Known, routeOf, poolOf, Forward, writtenFor, forwardOf, usedBy}
+use Rattle.gateway.specs.Step.{requestOf, Body, bodyOf, Known, Forward, forwardOf, usedBy}
 use Rattle.gateway.specs.Claims.{PipelinesFrame}
 use Rattle.gateway.proofs.Links.{body-links, links, lent-of}
 

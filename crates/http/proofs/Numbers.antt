@@ -1,18 +1,18 @@
 -- FOR CALLERS: which numbers each step can give.
 -- Assumes nothing.
 use Prim.Native.Nat.{ℕ}
-use mathlib.Core.Path.{_≡_, refl}
+use mathlib.Core.Path.{_≡_}
 use mathlib.Core.Bool.{Bool, true, false, cond}
 use mathlib.Core.List.{List, [], _∷_}
 use lib.Dec.{leb}
 use lib.ListN.{length, take}
-use Rattle.octets.specs.Outcome.{Outcome, refused, gives, given}
+use Rattle.octets.specs.Outcome.{given}
 use Rattle.octets.specs.Kinds.{oneOf}
 use Rattle.octets.specs.Scan.{count}
 use Rattle.octets.specs.Parts.{parted}
 use Rattle.octets.proofs.Refusals.{Refuses, with-number, not-refused, refuses-then, refuses-need, refuses-given}
 use Rattle.http.specs.Head.{endFrom, headOf}
-use Rattle.http.specs.RequestLine.{FirstLine, isMethod, isVersion, isServed, versionOf, threeParts, requestLineOf}
+use Rattle.http.specs.RequestLine.{isMethod, isVersion, isServed, versionOf, threeParts, requestLineOf}
 use Rattle.http.specs.Escape.{decoded}
 use Rattle.http.specs.Target.{pathOf, rawRight, decodedRight, targetOf}
 use Rattle.http.specs.Fields.{fieldsIn, fieldsOf}

@@ -3,12 +3,10 @@
 use Prim.Native.Nat.{ℕ}
 use Prim.Native.String.{String}
 use mathlib.Core.Path.{_≡_, refl}
-use mathlib.Core.Bool.{cond}
 use mathlib.Core.List.{List, [], _∷_, _++_, map}
 use mathlib.Core.Option.{some}
-use lib.Dec.{eqb}
 use lib.ListN.{replicate}
-use Rattle.octets.specs.Text.{bytes}
+use Rattle.octets.specs.Text.{bytes, barred}
 use Rattle.octets.specs.Outcome.{Outcome, refused, gives}
 use Rattle.octets.specs.Kinds.{isDigit}
 use Rattle.octets.specs.Compare.{sameBytes}
@@ -20,10 +18,6 @@ use Rattle.scgi.specs.Check.{has, checkBlock}
 use Rattle.scgi.specs.Netstring.{lengthFrom}
 use Rattle.scgi.specs.Read.{Places, readOf}
 use Rattle.scgi.specs.Write.{toWrite, writeOf}
-
--- | for NUL
-abbrev pub barred : String → List ℕ
-barred t = map (λ b. cond (eqb b 124) 0 b) (bytes t)
 
 pub record Case : Type 0 where
   pub input : String

@@ -1,0 +1,176 @@
+-- The cases that 01 marks W, the reader's and the gateway's, as one statement over one list; 01's whole output, and further cases.
+-- Assumes nothing.
+use Prim.Native.Nat.{ℕ, _+_}
+use Prim.Native.String.{String}
+use mathlib.Core.Path.{_≡_, refl}
+use mathlib.Core.Bool.{cond, _||_}
+use mathlib.Core.List.{List, [], _∷_, _++_, map}
+use mathlib.Core.Option.{Option, none, some}
+use lib.ListN.{length, take}
+use Rattle.octets.specs.Text.{bytes, barred}
+use Rattle.octets.specs.Outcome.{Outcome, refused, gives}
+use Rattle.octets.specs.Kinds.{isDigit, isLetter, isHex, isToken, isName, isTarget, isValue, isBlank}
+use Rattle.octets.specs.Scan.{run, allOf, count}
+use Rattle.octets.specs.Trim.{kept}
+use Rattle.octets.specs.Compare.{sameBytes, lowerOf, upperOf}
+use Rattle.octets.specs.Lists.{isIn, different}
+use Rattle.octets.specs.Decimal.{numberFrom, digitsIn}
+use Rattle.octets.specs.Parts.{parted}
+use Rattle.scgi.specs.Block.{Header, printed, paired}
+use Rattle.scgi.specs.Check.{has, checkBlock}
+use Rattle.scgi.specs.Netstring.{lengthFrom}
+use Rattle.scgi.specs.Read.{Places, readOf}
+use Rattle.http.specs.Head.{endFrom, headOf}
+use Rattle.http.specs.Lines.{linesFrom}
+use Rattle.http.specs.RequestLine.{isMethod, isVersion, versionOf, requestLineOf}
+use Rattle.http.specs.Escape.{escapesRight, hexValue, decodedFrom}
+use Rattle.http.specs.Target.{pathOf, queryOf, rawRight, noDots, segmentsRight, decodedRight, targetOf}
+use Rattle.http.specs.Fields.{fieldOf, eachField}
+use Rattle.gateway.specs.Fields.{passed, addedBy, grouped, valuesOf}
+use Rattle.gateway.specs.Variables.{fixed}
+use Rattle.gateway.specs.Step.{
+  hostRight,
+  contentOf,
+  rulesOf,
+  requestOf,
+  bodyOf,
+  Known,
+  Forward,
+  writtenFor,
+  forwardOf,
+  stepWith,
+}
+
+-- a head of these lines
+abbrev pub headText : List String → List ℕ
+headText [] = 13 ∷ 10 ∷ []
+headText (l ∷ ls) = bytes l ++ 13 ∷ 10 ∷ headText ls
+
+-- one mount, and what else is lent in 01's example
+abbrev pub mounted : Header → List ℕ → Option Header
+mounted m path = cond (sameBytes path (m .name) || sameBytes (take (length (m .name) + 1) path) (m .name ++ 47 ∷ [])) (some m) none
+
+abbrev pub lent : Outcome Known
+lent =
+    gives (record {
+      settings =
+          record {
+            auth = none;
+            remoteAddr = bytes "10.0.0.9";
+            serverName = bytes "q.example";
+            serverPort = bytes "80";
+            serverSoftware = bytes "gate/1";
+          };
+      mount = mounted (record { name = bytes "/jobs"; value = bytes "a" });
+    })
+
+-- what is asked: of the reader, SCGI bytes with | for NUL; of the step, the lines of a head, the bytes after it, and the output's room
+pub data Asked : Type 0 where
+  reader : String → Asked
+  step : List String → String → ℕ → Asked
+
+-- what is answered
+pub data Answer : Type 0 where
+  read : Outcome Places → Answer
+  forward : Outcome Forward → Answer
+
+abbrev pub answerTo : Asked → Answer
+answerTo (reader t) = read (readOf (barred t))
+answerTo (step ls rest room) = forward (stepWith lent (headText ls ++ bytes rest) room)
+
+pub record Case : Type 0 where
+  pub asked : Asked
+  pub answer : Answer
+
+-- source document 001's example: 70 block bytes, 27 body bytes, 101 used
+abbrev pub example : Places
+example = record { blockStart = 3; blockLength = 70; bodyStart = 74; bodyLength = 27; used = 101 }
+
+unfoldable pub cases : List Case
+cases =
+    record { asked = reader ""; answer = read (refused 1) }
+    ∷ record { asked = reader "0"; answer = read (refused 1) }
+    ∷ record { asked = reader "05"; answer = read (refused 2) }
+    ∷ record { asked = reader ":"; answer = read (refused 2) }
+    ∷ record { asked = reader "16385"; answer = read (refused 3) }
+    ∷ record { asked = reader "0:,"; answer = read (refused 8) }
+    ∷ record { asked = reader "0:x"; answer = read (refused 4) }
+    ∷ record {
+      asked = reader "70:CONTENT_LENGTH|27|SCGI|1|REQUEST_METHOD|POST|REQUEST_URI|/deepthought|,What is the answer to life?";
+      answer = read (gives example);
+    }
+    ∷ record {
+      asked = reader "70:CONTENT_LENGTH|27|SCGI|1|REQUEST_METHOD|POST|REQUEST_URI|/deepthought|,What is the answer to life";
+      answer = read (refused 1);
+    }
+    ∷ record {
+      asked = reader "70:CONTENT_LENGTH|27|SCGI|1|REQUEST_METHOD|POST|REQUEST_URI|/deepthought|,What is the answer to life?x";
+      answer = read (gives example);
+    }
+    ∷ record { asked = step ("GET /a%2Fb HTTP/1.1" ∷ "Host: q.example" ∷ []) "" 0; answer = forward (refused 14) }
+    ∷ record { asked = step ("GET /jobsx HTTP/1.1" ∷ "Host: q.example" ∷ []) "" 0; answer = forward (refused 19) }
+    ∷ []
+
+pub all-right : map (λ c. answerTo (c .asked)) cases ≡ map (λ c. c .answer) cases
+unfolding cases readOf lengthFrom checkBlock parted paired different isIn sameBytes numberFrom isDigit has stepWith forwardOf headOf endFrom linesFrom requestOf requestLineOf versionOf isMethod isVersion isToken isLetter isHex isTarget isName isValue isBlank run allOf count kept escapesRight hexValue decodedFrom pathOf queryOf rawRight noDots segmentsRight decodedRight targetOf fieldOf eachField lowerOf rulesOf hostRight contentOf valuesOf
+all-right = refl
+
+-- 01's example: "Whole output, | for NUL, 272 bytes"
+abbrev pub exampleOutput : List ℕ
+exampleOutput =
+    barred
+    "267:CONTENT_LENGTH|0|SCGI|1|GATEWAY_INTERFACE|CGI/1.1|PATH_INFO|/7|QUERY_STRING|x=1|REMOTE_ADDR|10.0.0.9|REQUEST_METHOD|GET|REQUEST_URI|/jobs/7?x=1|SCRIPT_NAME|/jobs|SERVER_NAME|q.example|SERVER_PORT|80|SERVER_PROTOCOL|HTTP/1.1|SERVER_SOFTWARE|gate/1|HTTP_HOST|q.example|,"
+
+-- fields that are joined, fields that are not passed, and a body with bytes after it
+abbrev pub joinedOutput : List ℕ
+joinedOutput =
+    barred
+    "312:CONTENT_LENGTH|5|SCGI|1|CONTENT_TYPE|text/plain|GATEWAY_INTERFACE|CGI/1.1|PATH_INFO||QUERY_STRING||REMOTE_ADDR|10.0.0.9|REQUEST_METHOD|POST|REQUEST_URI|/jobs|SCRIPT_NAME|/jobs|SERVER_NAME|q.example|SERVER_PORT|80|SERVER_PROTOCOL|HTTP/1.0|SERVER_SOFTWARE|gate/1|HTTP_ACCEPT|a, b|HTTP_X_JOB_!|, 1|HTTP_TE|trailers|,hello"
+
+-- 01's example, and cases that 01 settles by its words and that are easy to slip on
+unfoldable pub further : List Case
+further =
+    record {
+      asked = step ("GET /jobs/7?x=1 HTTP/1.1" ∷ "Host: q.example" ∷ []) "" 272;
+      answer = forward (gives (record { scgi = exampleOutput; pool = bytes "a"; used = 45 }));
+    }
+    ∷ record { asked = step ("GET /jobs/7?x=1 HTTP/1.1" ∷ "Host: q.example" ∷ []) "" 271; answer = forward (refused 21) }
+    ∷ record {
+      asked =
+          step (
+          "POST /jobs HTTP/1.0"
+          ∷ "Authorization: Basic x"
+          ∷ "Accept: a"
+          ∷ "X-Job-!:"
+          ∷ "content-TYPE: text/plain"
+          ∷ "ACCEPT:b "
+          ∷ "Proxy: p"
+          ∷ "Keep-Alive: 1"
+          ∷ "connection: TE"
+          ∷ "TE: trailers"
+          ∷ "x-job-!: 1"
+          ∷ "Proxy-Authorization: Basic x"
+          ∷ "Content-Length: 005"
+          ∷ [])
+          "hello!"
+          400;
+      answer = forward (gives (record { scgi = joinedOutput; pool = bytes "a"; used = 228 }));
+    }
+    ∷ record { asked = step ("GET /jobs HTTP/1.1" ∷ "Job_Id: 1" ∷ []) "" 0; answer = forward (refused 15) }
+    ∷ record { asked = step ("GET /jobs HTTP/1.1" ∷ []) "" 0; answer = forward (refused 16) }
+    ∷ record { asked = step ("GET /jobs HTTP/1.1" ∷ "Host: q" ∷ "HOST: q" ∷ []) "" 0; answer = forward (refused 16) }
+    ∷ record { asked = step ("GET /jobs HTTP/1.0" ∷ "Host: q" ∷ "HOST: q" ∷ []) "" 0; answer = forward (refused 16) }
+    ∷ record { asked = step ("GET /jobs HTTP/1.0" ∷ "Content-Length: 5" ∷ "content-length: 5" ∷ []) "" 0; answer = forward (refused 17) }
+    ∷ record { asked = step ("GET /jobs HTTP/1.0" ∷ "Content-Length: 5, 5" ∷ []) "" 0; answer = forward (refused 17) }
+    ∷ record { asked = step ("GET /jobs HTTP/1.0" ∷ "Content-Length:" ∷ []) "" 0; answer = forward (refused 17) }
+    ∷ record { asked = step ("GET /jobs HTTP/1.0" ∷ "Content-Type: a" ∷ "content-type: a" ∷ []) "" 0; answer = forward (refused 17) }
+    ∷ record { asked = step ("GET /jobs HTTP/1.0" ∷ "TRANSFER-encoding:" ∷ "Content-Length: 1048577" ∷ []) "" 0; answer = forward (refused 18) }
+    ∷ record { asked = step ("GET /jobsx HTTP/1.0" ∷ "Content-Length: 1048577" ∷ []) "" 0; answer = forward (refused 19) }
+    ∷ record { asked = step ("GET /jobs HTTP/1.0" ∷ "Content-Length: 18446744073709551616" ∷ []) "" 0; answer = forward (refused 9) }
+    ∷ record { asked = step ("GET /jobs HTTP/1.0" ∷ "Content-Length: 5" ∷ []) "hell" 0; answer = forward (refused 1) }
+    ∷ record { asked = step ("GET /jobs HTTP/1.0" ∷ "Content-Length: 5" ∷ []) "hello" 0; answer = forward (refused 21) }
+    ∷ []
+
+pub further-right : map (λ c. answerTo (c .asked)) further ≡ map (λ c. c .answer) further
+unfolding further sameBytes isIn numberFrom digitsIn isDigit printed parted stepWith forwardOf writtenFor headOf endFrom linesFrom requestOf requestLineOf versionOf isMethod isVersion isToken isLetter isHex isTarget isName isValue isBlank run allOf count kept escapesRight hexValue decodedFrom pathOf queryOf rawRight noDots segmentsRight decodedRight targetOf fieldOf eachField lowerOf upperOf rulesOf hostRight contentOf valuesOf bodyOf fixed passed addedBy grouped
+further-right = refl
