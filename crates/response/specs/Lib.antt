@@ -1,0 +1,6 @@
+pub mod Head
+pub mod Seen
+pub mod Status
+pub mod Location
+pub mod Table
+pub mod Response
