@@ -8,3 +8,4 @@ pub mod Statuses
 pub mod Locations
 pub mod Tables
 pub mod RespondSteps
+pub mod Worked
