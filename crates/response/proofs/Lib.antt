@@ -9,3 +9,5 @@ pub mod Locations
 pub mod Tables
 pub mod RespondSteps
 pub mod Worked
+pub mod Answers
+pub mod Claims

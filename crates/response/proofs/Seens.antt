@@ -88,7 +88,7 @@ module _ (s : List ℕ) where
       cc
 
 -- fields with a name are fields
-named-in : {P : Named → Type 0} (w : List ℕ) (fs : List Named) → All P fs → All P (named w fs)
+pub named-in : {P : Named → Type 0} (w : List ℕ) (fs : List Named) → All P fs → All P (named w fs)
 unfolding named
 named-in w [] no-more = no-more
 named-in {P} w (f ∷ fs) (p & ps) = by (sameLetters (f .name) w) (named-in w fs ps)

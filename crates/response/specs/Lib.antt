@@ -4,3 +4,4 @@ pub mod Status
 pub mod Location
 pub mod Table
 pub mod Response
+pub mod Claims
