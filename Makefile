@@ -1,5 +1,5 @@
-# make test: the whole gate. make check: prove what changed. make run: the program of vectors.
-.PHONY: test check run fmt clean
+# make test: the whole gate. make check: prove what changed. make run: the program of vectors. make spool: the spool program.
+.PHONY: test check run spool fmt clean
 
 test:
 	bash .ci/run
@@ -9,6 +9,9 @@ check:
 
 run:
 	rt check vectors && target/bin/vectors
+
+spool:
+	rt check spool
 
 fmt:
 	rt fmt

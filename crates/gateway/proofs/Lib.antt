@@ -10,3 +10,4 @@ pub mod Pipelines
 pub mod Numbers
 pub mod Worked
 pub mod Claims
+pub mod Puts

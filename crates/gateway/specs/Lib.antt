@@ -3,3 +3,4 @@ pub mod Meaning
 pub mod Variables
 pub mod Step
 pub mod Claims
+pub mod Put

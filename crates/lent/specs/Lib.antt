@@ -1,2 +1,5 @@
 pub mod Settings
 pub mod Mounts
+pub mod Lent
+pub mod Search
+pub mod Claims

@@ -1,6 +1,6 @@
 -- Laws of looking a name up, for a reader that goes from header to header, and for those that use its answer.
 -- Assumes nothing.
-use Prim.Native.Nat.{ℕ, _+_, _-_, _≤_, _<_}
+use Prim.Native.Nat.{ℕ, _+_, _-_, _*_, _≤_, _<_}
 use Prim.{absurd}
 use mathlib.Core.Path.{_≡_, refl, sym, ap, _∙_}
 use mathlib.Core.Bool.{Bool, true, false, cond, false≢true}
@@ -11,10 +11,12 @@ use lib.ListN.{length, take, drop, length-take, length-drop, length-append}
 use lib.Seq.{take-append-seam}
 use Rattle.octets.specs.Outcome.{Outcome, refused, gives, then, given}
 use Rattle.octets.specs.Compare.{sameBytes}
+use Rattle.octets.specs.Lists.{All, _&_, isNil}
 use Rattle.octets.proofs.Outcomes.{then-gives, given-gives}
 use Rattle.scgi.specs.Block.{Header, printed, headersOf, parsed, isSome, wellFormed, countOf, headerIn, HeaderFound}
+use Rattle.scgi.specs.Grammar.{Proper}
 use Rattle.scgi.specs.Lookup.{Part, partOption, placeIn, valueIn, lookupOf}
-use Rattle.scgi.specs.Claims.{LookupFindsValue}
+use Rattle.scgi.specs.Claims.{LookupFindsValue, WellFormedHeaded, HeadersFew}
 use Rattle.scgi.specs.Setting.{in-first, in-second, firstOf, settingOf}
 use Rattle.scgi.specs.declared.block.HeaderPlace.the-variants.{At}
 use Rattle.scgi.proofs.Blocks.{printed-read, behind-name, behind-printed}
@@ -44,6 +46,24 @@ pub well-counted : (b : List ℕ) (n : ℕ) → countOf b ≡ gives n → wellFo
 well-counted b n e =
     let g = counted b n e in
     well-parsed b (g .hs) (g .is)
+
+pub well-formed-headed : WellFormedHeaded
+well-formed-headed b = (λ w. let p = well b w in record { hs = p .hs; is = p .is }, λ p. well-parsed b (p .hs) (p .is))
+
+-- a header takes three bytes or more
+named-length : (n : List ℕ) → isNil n ≡ false → 0 < length n
+named-length [] e = absurd (false≢true (sym e))
+named-length (b ∷ n) e = omega arith
+
+printed-length : (hs : List Header) → All Proper hs → 3 * length hs ≤ length (printed hs)
+unfolding printed
+printed-length [] p = omega arith
+printed-length (h ∷ hs) (p & ps) = simp length-append (omega (arith, named-length (h .name) (p .named), printed-length hs ps))
+
+pub headers-few : HeadersFew
+headers-few b hs e =
+    let p = printed-read b hs (given-gives (headersOf b) 5 hs e) in
+    omega (arith, ap length (p .bytes), printed-length hs (p .proper))
 
 -- a refusal of the parse is every step's
 pub count-refused : {A : Type 0} (b : List ℕ) (n : ℕ) (f : List Header → Outcome A) → countOf b ≡ refused n → then (parsed b) f ≡ refused n

@@ -1,21 +1,22 @@
 -- What is claimed of the reader and the writer of SCGI requests.
 -- Assumes nothing.
-use Prim.Native.Nat.{ℕ, _+_, _≤_, _<_}
+use Prim.Native.Nat.{ℕ, _+_, _*_, _≤_, _<_}
 use mathlib.Core.Path.{_≡_}
 use mathlib.Core.Bool.{true, cond}
 use mathlib.Core.Logic.{_↔_}
 use mathlib.Core.List.{List, [], _∷_, _++_}
-use mathlib.Core.Option.{Option}
+use mathlib.Core.Option.{Option, some}
 use lib.Dec.{leb}
 use lib.ListN.{length, take}
 use Rattle.octets.specs.Outcome.{refused, gives}
 use Rattle.octets.specs.Kinds.{oneOf}
 use Rattle.octets.specs.Decimal.{decimal}
 use Rattle.framing.specs.Claims.{Frames, SpoolsEqual, SpoolCut, SpoolGoesOn}
-use Rattle.scgi.specs.Block.{Header, printed, parsed}
+use Rattle.scgi.specs.Block.{Header, printed, parsed, wellFormed}
 use Rattle.scgi.specs.Grammar.{netstring, encoded, IsRequest}
 use Rattle.scgi.specs.Lookup.{Part, partOption, valueIn, lookupOf}
 use Rattle.scgi.specs.Read.{Places, readOf, usedOf, blockIn, bodyIn}
+use Rattle.scgi.specs.Setting.{in-first, in-second, settingOf}
 use Rattle.scgi.specs.Window.{largest}
 use Rattle.scgi.specs.Write.{writeOf}
 
@@ -109,6 +110,25 @@ abbrev pub LookupFindsValue : Type 0
 LookupFindsValue =
     (block name : List ℕ) (hs : List Header) (o : Option Part) → parsed block ≡ gives hs → lookupOf block name ≡ gives o
     → partOption block o ≡ valueIn name hs
+
+-- the headers of a block
+pub record Headed (block : List ℕ) : Type 0 where
+  pub hs : List Header
+  pub is : parsed block ≡ gives hs
+
+-- a block is well formed exactly where it has headers, be they none
+abbrev pub WellFormedHeaded : Type 0
+WellFormedHeaded = (block : List ℕ) → (wellFormed block ≡ true) ↔ Headed block
+
+-- a header takes a byte of name and two NULs at least
+abbrev pub HeadersFew : Type 0
+HeadersFew = (block : List ℕ) (hs : List Header) → parsed block ≡ gives hs → 3 * length hs ≤ length block
+
+-- a place that is given lies in its block
+pub record PlacesInside : Type 0 where
+  pub of-one : (block name : List ℕ) (p : Part) → lookupOf block name ≡ gives (some p) → p .start + p .len ≤ length block
+  pub of-first : (first second name : List ℕ) (p : Part) → settingOf first second name ≡ gives (in-first p) → p .start + p .len ≤ length first
+  pub of-second : (first second name : List ℕ) (p : Part) → settingOf first second name ≡ gives (in-second p) → p .start + p .len ≤ length second
 
 -- the reader's numbers: 1, 2, 3, then 4, "and over the whole block 5, 6, 7, 8, 9, 10"; none is 0
 abbrev pub readNumbers : List ℕ

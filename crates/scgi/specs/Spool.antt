@@ -4,12 +4,15 @@ use Prim.Native.Nat.{ℕ}
 use mathlib.Core.Path.{_≡_}
 use mathlib.Core.List.{List}
 use lib.ListN.{length}
+use Rattle.octets.specs.Outcome.{Outcome, refused, gives}
 use Rattle.octets.specs.Copy.{over}
 use Rattle.framing.specs.Spool.{Spool, whole, cut, refusedBy, full, spoolOf, total}
 use Rattle.framing.specs.Spool as Framing
 use Rattle.scgi.specs.Read.{usedOf}
 use Rattle.scgi.specs.declared.spool.Ending.{Ending}
 use Rattle.scgi.specs.declared.spool.Ending.the-variants.{Whole, Cut, Refused, Full}
+use Rattle.scgi.specs.declared.spool.Used.{Used}
+use Rattle.scgi.specs.declared.spool.Used.the-variants.{Bytes, Refused as UsedRefused}
 use Rattle.scgi.specs.declared.spool.Spooled.{Spooled}
 
 -- what the code's ending says
@@ -18,6 +21,10 @@ endingOf Whole = whole
 endingOf Cut = cut
 endingOf (Refused n) = refusedBy n
 endingOf Full = full
+
+abbrev pub usedOutcome : Used → Outcome ℕ
+usedOutcome (Bytes n) = gives n
+usedOutcome (UsedRefused n) = refused n
 
 -- the requests of the bytes, by the reader's used count, for a list with room for so many lengths
 abbrev pub requestsOf : List ℕ → ℕ → Spool

@@ -75,12 +75,20 @@ fn all_differ(block: &[u8], places: &[usize], n: usize) -> bool
     true
 }
 
-// Whether the names of a block of n headers differ: each pair is compared, by places that are found once.
+// Whether the names of a block of n headers differ: each pair is compared, by places that are found once and stored in a lent list.
+pub fn names_differ_by(block: &[u8], n: usize, places: &mut [usize]) -> bool
+    requires { ⌜ (countOf (now block) ≡ gives n) × (2 * n ≤ length (now places)) ⌝ }
+    ensures { λ r. ⌜ then (parsed (now (block .entry))) (λ hs. gives (different (names hs))) ≡ gives r ⌝ }
+{
+    store_names(block, n, places);
+    all_differ(block, places, n)
+}
+
+// The same for as many headers as a request may have.
 pub fn names_differ(block: &[u8], n: usize) -> bool
     requires { ⌜ (countOf (now block) ≡ gives n) × (n ≤ 128) ⌝ }
     ensures { λ r. ⌜ then (parsed (now (block .entry))) (λ hs. gives (different (names hs))) ≡ gives r ⌝ }
 {
     let mut places = [0usize; 256];
-    store_names(block, n, &mut places);
-    all_differ(block, &places, n)
+    names_differ_by(block, n, &mut places)
 }

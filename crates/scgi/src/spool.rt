@@ -3,7 +3,8 @@ ghost use mathlib.Core.Path.{_≡_};
 ghost use mathlib.Core.Bool.{cond};
 ghost use lib.Dec.{eqb};
 ghost use Rattle.framing.specs.Spool.{cut, refusedBy};
-ghost use Rattle.scgi.specs.Spool.{endingOf, SpoolDone};
+ghost use Rattle.scgi.specs.Spool.{endingOf, usedOutcome, SpoolDone};
+ghost use Rattle.scgi.specs.Read.{usedOf};
 use crate::read::Reading;
 use crate::read::read;
 
@@ -32,6 +33,32 @@ fn refusal_ending(k: u8) -> Ending
     Ending::Refused(k)
 }
 
+pub enum Used {
+    Bytes(usize),
+    Refused(u8),
+}
+
+// How many bytes the request at the start of s has.
+fn read_used(s: &[u8]) -> Used
+    ensures { λ r. ⌜ usedOutcome r ≡ usedOf (now (s .entry)) ⌝ }
+{
+    let r = read(s);
+    let Reading::Request {
+        block_start: _,
+        block_len: _,
+        body_start: _,
+        body_len: _,
+        used,
+    } = r
+    else {
+        let Reading::Refused(k) = r else {
+            return Used::Refused(0);
+        };
+        return Used::Refused(k);
+    };
+    Used::Bytes(used)
+}
+
 // Stores the byte length of each request of a spool, from the front.
 pub fn spool(bytes: &[u8], lengths: &mut [u64]) -> Spooled
     ensures { λ r. ⌜ SpoolDone (now (bytes .entry)) (now (lengths .entry)) (now (lengths .exit)) r ⌝ }
@@ -39,16 +66,9 @@ pub fn spool(bytes: &[u8], lengths: &mut [u64]) -> Spooled
     let mut i: usize = 0;
     let mut n: usize = 0;
     while i < bytes.len() {
-        let r = read(&bytes[i..]);
-        let Reading::Request {
-            block_start: _,
-            block_len: _,
-            body_start: _,
-            body_len: _,
-            used,
-        } = r
-        else {
-            let Reading::Refused(k) = r else {
+        let u = read_used(&bytes[i..]);
+        let Used::Bytes(used) = u else {
+            let Used::Refused(k) = u else {
                 return Spooled {
                     count: n,
                     next: i,

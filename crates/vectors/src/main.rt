@@ -2,6 +2,7 @@
 // The file stdout holds what they must give.
 mod print; // words and numbers on standard output
 mod scgi_cases; // the reader, the writer and the lookups
+mod http_cases; // the parts of an HTTP head
 
 fn main() {
     scgi_cases::reader();
@@ -9,4 +10,9 @@ fn main() {
     scgi_cases::writer();
     scgi_cases::lookup();
     scgi_cases::two_blocks();
+    http_cases::heads();
+    http_cases::request_lines();
+    http_cases::targets();
+    http_cases::field_cases();
+    http_cases::fields_of_heads();
 }

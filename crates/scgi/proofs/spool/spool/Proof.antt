@@ -6,11 +6,12 @@ use native.Mathlib.Omega.{arith}
 use lib.ListN.{length, drop, length-set}
 use borrow.Author.Needs.{needs}
 use Rattle.octets.proofs.Lists.{from}
-use Rattle.octets.specs.Outcome.{Outcome, gives, then}
+use Rattle.octets.specs.Outcome.{gives}
 use Rattle.scgi.proofs.SpoolWalks.{Standing, start, none-left, refusal, within, used-some, no-room, stored-one}
 use Rattle.scgi.proofs.spool.spool.Statement.{statement}
 use Rattle.scgi.proofs.spool.spool.Tie as tie
-use Rattle.scgi.specs.Read.{Places, readOf, readingOutcome, usedOf}
+use Rattle.scgi.specs.Read.{usedOf}
+use Rattle.scgi.specs.Spool.{usedOutcome}
 
 abbrev Inv-loop : tie.InvT-loop
 Inv-loop bytes lengths₀ i₀ n₀ lengths i n = (i ≤ length bytes) × (length lengths ≡ length lengths₀) × Standing bytes lengths₀ i n lengths
@@ -19,28 +20,25 @@ abbrev μ-loop : tie.MeasureT-loop
 μ-loop bytes lengths₀ i₀ n₀ lengths i n = length bytes - i
 
 -- what the reader says of the bytes from i on
-says : (c : tie.After-read Inv-loop μ-loop) → (let l = c .before .before .before in readOf (drop (l .loop .i) (l .before .before .before .args .bytes .now)) ≡ readingOutcome (c .read .result))
+says : (c : tie.After-read-used Inv-loop μ-loop) → (let l = c .before .before .before in usedOf (drop (l .loop .i) (l .before .before .before .args .bytes .now)) ≡ usedOutcome (c .read-used .result))
 says c =
     let l = c .before .before .before in
-    sym (c .read .ensures ∙ ap readOf (from (l .before .before .before .args .bytes .now) (l .loop .i)))
-
-counted : (o : Outcome Places) {p : Outcome Places} → o ≡ p → then o (λ q. gives (q .used)) ≡ then p (λ q. gives (q .used))
-counted o e = ap (λ (x : Outcome Places). then x (λ q. gives (q .used))) e
+    sym (c .read-used .ensures ∙ ap usedOf (from (l .before .before .before .args .bytes .now) (l .loop .i)))
 
 -- the used count, where the pattern matched
 reads :
     (c : tie.After-known-told Inv-loop μ-loop)
-    → (let l = c .before .before .before .before .before .before in usedOf (drop (l .loop .i) (l .before .before .before .args .bytes .now)) ≡ gives (c .before .r .given .0 .1 .1 .1 .1 .0))
-reads c = counted _ (says (c .before .before .before) ∙ ap readingOutcome (c .before .r .given .1))
+    → (let l = c .before .before .before .before .before .before in usedOf (drop (l .loop .i) (l .before .before .before .args .bytes .now)) ≡ gives (c .before .u .given .0 .0))
+reads c = says (c .before .before .before) ∙ ap usedOutcome (c .before .u .given .1)
 
 ends :
     (c : tie.After-known-told Inv-loop μ-loop)
-    → (let l = c .before .before .before .before .before .before in l .loop .i + c .before .r .given .0 .1 .1 .1 .1 .0 ≤ length (l .before .before .before .args .bytes .now))
+    → (let l = c .before .before .before .before .before .before in l .loop .i + c .before .u .given .0 .0 ≤ length (l .before .before .before .args .bytes .now))
 ends c =
     let t = c .before .before .before .before .before in
     within (t .before .loop .inv .2) (t .loop-test .taken) _ (reads c)
 
-some : (c : tie.After-known-told Inv-loop μ-loop) → 1 ≤ c .before .r .given .0 .1 .1 .1 .1 .0
+some : (c : tie.After-known-told Inv-loop μ-loop) → 1 ≤ c .before .u .given .0 .0
 some c =
     let t = c .before .before .before .before .before in
     used-some (t .before .loop .inv .2) (t .loop-test .taken) _ (reads c)
@@ -48,26 +46,26 @@ some c =
 loop-holds : tie.Need-loop-holds Inv-loop μ-loop
 loop-holds c = (search needs, refl, start _ _)
 
-sub-read : tie.Need-sub-read Inv-loop μ-loop
-sub-read c = search needs
+sub-read-used : tie.Need-sub-read-used Inv-loop μ-loop
+sub-read-used c = search needs
 
-part-read-start : tie.Need-part-read-start Inv-loop μ-loop
-part-read-start c = search needs
+part-read-used-start : tie.Need-part-read-used-start Inv-loop μ-loop
+part-read-used-start c = search needs
 
-part-read-end : tie.Need-part-read-end Inv-loop μ-loop
-part-read-end c = search needs
+part-read-used-end : tie.Need-part-read-used-end Inv-loop μ-loop
+part-read-used-end c = search needs
 
-read-requires : tie.Need-read-requires Inv-loop μ-loop
-read-requires c κs = search needs
+read-used-requires : tie.Need-read-used-requires Inv-loop μ-loop
+read-used-requires c κs = search needs
 
-enum-known-r : tie.Need-enum-known-r Inv-loop μ-loop
-enum-known-r c = search needs
+enum-known-u : tie.Need-enum-known-u Inv-loop μ-loop
+enum-known-u c = search needs
 
-enum-known-r-2 : tie.Need-enum-known-r-2 Inv-loop μ-loop
-enum-known-r-2 c = search needs
+enum-known-u-2 : tie.Need-enum-known-u-2 Inv-loop μ-loop
+enum-known-u-2 c = search needs
 
-enum-known-r-3 : tie.Need-enum-known-r-3 Inv-loop μ-loop
-enum-known-r-3 c = search needs
+enum-known-u-3 : tie.Need-enum-known-u-3 Inv-loop μ-loop
+enum-known-u-3 c = search needs
 
 enum-told : tie.Need-enum-told Inv-loop μ-loop
 enum-told c = search needs
@@ -87,7 +85,7 @@ same-length-2 c = search needs
 returns-2 : tie.Need-returns-2 Inv-loop μ-loop
 returns-2 c =
     let t = c .before .before .before .before .before .before .before .before .before in
-    refusal (t .before .loop .inv .2) (t .loop-test .taken) _ _ (counted _ (says (c .before .before .before .before .before .before .before) ∙ ap readingOutcome (c .before .before .before .before .before .r2 .given .1 ∙ c .before .before .r3 .given .1))) (c .refusal-ending .ensures)
+    refusal (t .before .loop .inv .2) (t .loop-test .taken) _ _ (says (c .before .before .before .before .before .before .before) ∙ ap usedOutcome (c .before .before .before .before .before .u2 .given .1 ∙ c .before .before .u3 .given .1)) (c .refusal-ending .ensures)
 
 same-length-3 : tie.Need-same-length-3 Inv-loop μ-loop
 same-length-3 c = search needs
@@ -133,13 +131,13 @@ spool-spec =
     Inv-loop
     μ-loop
     loop-holds
-    sub-read
-    part-read-start
-    part-read-end
-    read-requires
-    enum-known-r
-    enum-known-r-2
-    enum-known-r-3
+    sub-read-used
+    part-read-used-start
+    part-read-used-end
+    read-used-requires
+    enum-known-u
+    enum-known-u-2
+    enum-known-u-3
     enum-told
     same-length
     returns

@@ -1,0 +1,4 @@
+pub mod Mounts
+pub mod Searches
+pub mod Worked
+pub mod Claims

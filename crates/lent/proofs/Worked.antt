@@ -1,0 +1,170 @@
+-- Worked cases, each list proved as one statement by computation.
+-- Assumes nothing.
+use Prim.Native.Nat.{ℕ}
+use Prim.Native.String.{String}
+use mathlib.Core.Path.{_≡_, refl}
+use mathlib.Core.Bool.{cond}
+use mathlib.Core.List.{List, [], _∷_, map}
+use mathlib.Core.Option.{none, some}
+use lib.Dec.{eqb}
+use lib.ListN.{replicate}
+use Rattle.octets.specs.Text.{bytes}
+use Rattle.octets.specs.Outcome.{Outcome, refused, gives, then}
+use Rattle.octets.specs.Kinds.{isDigit}
+use Rattle.octets.specs.Compare.{sameBytes}
+use Rattle.octets.specs.Lists.{isIn, different}
+use Rattle.octets.specs.Decimal.{numberFrom}
+use Rattle.octets.specs.Parts.{parted}
+use Rattle.scgi.specs.Block.{Header, paired, printed}
+use Rattle.scgi.specs.Lookup.{valueIn}
+use Rattle.lent.specs.Settings.{Settings, settingsOf}
+use Rattle.lent.specs.Mounts.{Route, begins, mountOf, mountFor, routeOf}
+use Rattle.lent.specs.Lent.{Lent, ends, allMounts, blockOf, mountsOf, lentOf}
+
+-- | for NUL
+abbrev pub barred : String → List ℕ
+barred t = map (λ b. cond (eqb b 124) 0 b) (bytes t)
+
+-- What is lent.
+
+pub record Case : Type 0 where
+  pub facts : String
+  pub site : String
+  pub mounts : String
+  pub answer : Outcome Lent
+
+-- 01's example: no AUTH_TYPE, the server's values in either block
+abbrev pub plain : Settings
+plain =
+    record {
+      auth = none;
+      remoteAddr = bytes "10.0.0.9";
+      serverName = bytes "q.example";
+      serverPort = bytes "80";
+      serverSoftware = bytes "gate/1";
+    }
+
+abbrev pub jobs : Header
+jobs = record { name = bytes "/jobs"; value = bytes "p" }
+
+unfoldable pub cases : List Case
+cases =
+    record {
+      facts = "REMOTE_ADDR|10.0.0.9|SERVER_PORT|80|";
+      site = "SERVER_NAME|q.example|SERVER_PORT|81|SERVER_SOFTWARE|gate/1|AUTH_TYPE||";
+      mounts = "/jobs|p|";
+      answer = gives (record { settings = plain; mounts = jobs ∷ [] });
+    }
+    -- no mounts at all is no breach, and unknown names are ignored
+    ∷ record {
+      facts = "REMOTE_ADDR|10.0.0.9|X||";
+      site = "SERVER_NAME|q.example|SERVER_PORT|80|SERVER_SOFTWARE|gate/1|Y|1|";
+      mounts = "";
+      answer = gives (record { settings = plain; mounts = [] });
+    }
+    ∷ record {
+      facts = "REMOTE_ADDR|10.0.0.9|AUTH_TYPE|Basic|REMOTE_USER|ann|";
+      site = "SERVER_NAME|q.example|SERVER_PORT|65535|SERVER_SOFTWARE|gate/1|";
+      mounts = "";
+      answer =
+          gives
+          (record {
+            settings =
+                record {
+                  auth = some (record { authType = bytes "Basic"; remoteUser = bytes "ann" });
+                  remoteAddr = bytes "10.0.0.9";
+                  serverName = bytes "q.example";
+                  serverPort = bytes "65535";
+                  serverSoftware = bytes "gate/1";
+                };
+            mounts = [];
+          });
+    }
+    ∷ []
+
+-- one breach each: what stands beside it is right
+pub record Breach : Type 0 where
+  pub facts : String
+  pub site : String
+  pub mounts : String
+
+unfoldable pub breaches : List Breach
+breaches =
+    record { facts = "REMOTE_ADDR|a|SERVER_NAME||"; site = "SERVER_NAME|n|SERVER_PORT|80|SERVER_SOFTWARE|g|"; mounts = "" }
+    ∷ record { facts = "REMOTE_ADDR|a|X|1|X|2|"; site = "SERVER_NAME|n|SERVER_PORT|80|SERVER_SOFTWARE|g|"; mounts = "" }
+    ∷ record { facts = "REMOTE_ADDR|a"; site = "SERVER_NAME|n|SERVER_PORT|80|SERVER_SOFTWARE|g|"; mounts = "" }
+    ∷ record { facts = "REMOTE_ADDR|a|"; site = "SERVER_NAME|n|SERVER_PORT|80|"; mounts = "" }
+    ∷ record { facts = "REMOTE_ADDR|a|"; site = "SERVER_NAME|n|SERVER_PORT|0|SERVER_SOFTWARE|g|"; mounts = "" }
+    ∷ record { facts = "REMOTE_ADDR|a|"; site = "SERVER_NAME|n|SERVER_PORT|080|SERVER_SOFTWARE|g|"; mounts = "" }
+    ∷ record { facts = "REMOTE_ADDR|a|"; site = "SERVER_NAME|n|SERVER_PORT|65536|SERVER_SOFTWARE|g|"; mounts = "" }
+    ∷ record { facts = "REMOTE_ADDR|a|"; site = "SERVER_NAME|n|SERVER_PORT|8 0|SERVER_SOFTWARE|g|"; mounts = "" }
+    ∷ record { facts = "REMOTE_ADDR||"; site = "SERVER_NAME|n|SERVER_PORT|80|SERVER_SOFTWARE|g|"; mounts = "" }
+    ∷ record { facts = "X|1|"; site = "REMOTE_ADDR|a|SERVER_NAME|n|SERVER_PORT|80|SERVER_SOFTWARE|g|"; mounts = "" }
+    ∷ record { facts = "REMOTE_ADDR|a|AUTH_TYPE|t|"; site = "REMOTE_USER|u|SERVER_NAME|n|SERVER_PORT|80|SERVER_SOFTWARE|g|"; mounts = "" }
+    ∷ record { facts = "REMOTE_ADDR|a|REMOTE_USER|u|"; site = "AUTH_TYPE|t|SERVER_NAME|n|SERVER_PORT|80|SERVER_SOFTWARE|g|"; mounts = "" }
+    ∷ record { facts = "REMOTE_ADDR|a|AUTH_TYPE|t|REMOTE_USER||"; site = "SERVER_NAME|n|SERVER_PORT|80|SERVER_SOFTWARE|g|"; mounts = "" }
+    ∷ record { facts = "REMOTE_ADDR|a|"; site = "SERVER_NAME|n|SERVER_PORT|80|SERVER_SOFTWARE|g|"; mounts = "/|p|" }
+    ∷ record { facts = "REMOTE_ADDR|a|"; site = "SERVER_NAME|n|SERVER_PORT|80|SERVER_SOFTWARE|g|"; mounts = "/a/|p|" }
+    ∷ record { facts = "REMOTE_ADDR|a|"; site = "SERVER_NAME|n|SERVER_PORT|80|SERVER_SOFTWARE|g|"; mounts = "a|p|" }
+    ∷ record { facts = "REMOTE_ADDR|a|"; site = "SERVER_NAME|n|SERVER_PORT|80|SERVER_SOFTWARE|g|"; mounts = "/a||" }
+    ∷ record { facts = "REMOTE_ADDR|a|"; site = "SERVER_NAME|n|SERVER_PORT|80|SERVER_SOFTWARE|g|"; mounts = "/a|p|/a|q|" }
+    ∷ []
+
+pub all-right : map (λ c. lentOf (barred (c .facts)) (barred (c .site)) (barred (c .mounts))) cases ≡ map (λ c. c .answer) cases
+unfolding cases lentOf settingsOf begins ends allMounts valueIn parted paired different isIn sameBytes numberFrom isDigit
+all-right = refl
+
+pub all-breaches : map (λ c. lentOf (barred (c .facts)) (barred (c .site)) (barred (c .mounts))) breaches ≡ map (λ c. refused 20) breaches
+unfolding breaches lentOf settingsOf begins ends allMounts valueIn parted paired different isIn sameBytes numberFrom isDigit
+all-breaches = refl
+
+-- Mounts.
+
+pub record Path : Type 0 where
+  pub path : String
+  pub answer : Outcome Route
+
+abbrev pub to : String → String → Outcome Route
+to name rest = gives (record { scriptName = bytes name; pathInfo = bytes rest })
+
+unfoldable pub paths : List Path
+paths =
+    record { path = "/jobs"; answer = to "/jobs" "" }
+    ∷ record { path = "/jobs/7"; answer = to "/jobs" "/7" }
+    ∷ record { path = "/jobs/"; answer = to "/jobs" "/" }
+    ∷ record { path = "/jobs//x"; answer = to "/jobs" "//x" }
+    ∷ record { path = "/jobsx"; answer = refused 19 }
+    ∷ record { path = "/jobs/old"; answer = to "/jobs/old" "" }
+    ∷ record { path = "/jobs/old/7"; answer = to "/jobs/old" "/7" }
+    ∷ record { path = "/jobs/older"; answer = to "/jobs" "/older" }
+    ∷ record { path = "/job"; answer = refused 19 }
+    ∷ record { path = "/"; answer = refused 19 }
+    ∷ []
+
+abbrev pub mounted : List Header
+mounted = jobs ∷ record { name = bytes "/jobs/old"; value = bytes "q" } ∷ []
+
+abbrev pub routed : String → Outcome Route
+routed p = then (mountFor mounted (bytes p)) (λ m. gives (routeOf m (bytes p)))
+
+pub paths-right : map (λ c. routed (c .path)) paths ≡ map (λ c. c .answer) paths
+unfolding paths mountOf begins sameBytes
+paths-right = refl
+
+-- The limits, on blocks that are too long to write out.
+
+-- a header of n + 3 bytes
+abbrev pub filler : ℕ → List Header
+filler n = record { name = bytes "A"; value = replicate n 66 } ∷ []
+
+-- a mount for each letter
+abbrev pub letters : String → List Header
+letters t = map (λ b. record { name = 47 ∷ b ∷ []; value = b ∷ [] }) (bytes t)
+
+pub limits :
+    (blockOf 1024 (printed (filler 1021)) ≡ gives (filler 1021))
+    × (blockOf 1024 (printed (filler 1022)) ≡ refused 20)
+    × (mountsOf (printed (letters "ABCDEFGHIJKLMNOPQRSTUVWXYZabcdef")) ≡ gives (letters "ABCDEFGHIJKLMNOPQRSTUVWXYZabcdef"))
+    × (mountsOf (printed (letters "ABCDEFGHIJKLMNOPQRSTUVWXYZabcdefg")) ≡ refused 20)
+unfolding printed begins ends allMounts parted paired different isIn sameBytes
+limits = (refl, refl, refl, refl)

@@ -1,0 +1,63 @@
+// The mount that a path goes to. A mount is a header of the mounts block: its name, and the pool that its value names.
+ghost use mathlib.Core.Path.{_≡_};
+ghost use mathlib.Core.Bool.{true};
+ghost use Rattle.scgi.specs.Block.{wellFormed};
+ghost use Rattle.lent.specs.Mounts.{slashPart, shortened};
+ghost use Rattle.lent.specs.Search.{MountFound};
+use scgi::lookup::Place;
+use scgi::lookup::seek;
+
+pub enum Slash {
+    At(usize),
+    Absent,
+}
+
+// Where the last slash of a path stands.
+fn last_slash(path: &[u8]) -> Slash
+    ensures { λ r. ⌜ slashPart (now (path .entry)) r ≡ shortened (now (path .entry)) ⌝ }
+{
+    let mut n = path.len();
+    while 0 < n {
+        if path[n - 1] == b'/' {
+            return Slash::At(n - 1);
+        }
+        n -= 1;
+    }
+    Slash::Absent
+}
+
+pub enum Mount {
+    // How long the mount's name is, with which the path begins, and where the pool stands in the mounts.
+    Found {
+        name_len: usize,
+        pool_start: usize,
+        pool_len: usize,
+    },
+    Refused(u8),
+}
+
+// The longest mount that fits a path: the path is tried as a name, then the path without its last segment, and so on.
+pub fn search(mounts: &[u8], path: &[u8]) -> Mount
+    requires { ⌜ wellFormed (now mounts) ≡ true ⌝ }
+    ensures { λ r. ⌜ MountFound (now (mounts .entry)) (now (path .entry)) r ⌝ }
+{
+    let p = seek(mounts, path);
+    match p {
+        Place::At { start, len } => {
+            return Mount::Found {
+                name_len: path.len(),
+                pool_start: start,
+                pool_len: len,
+            };
+        }
+        Place::Refused(_) => {
+            return Mount::Refused(19);
+        }
+        Place::Absent => {}
+    }
+    let s = last_slash(path);
+    let Slash::At(k) = s else {
+        return Mount::Refused(19);
+    };
+    search(mounts, &path[..k])
+}
