@@ -1,4 +1,6 @@
 pub mod Mounts
 pub mod Searches
+pub mod BlockSteps
+pub mod SettingSteps
 pub mod Worked
 pub mod Claims

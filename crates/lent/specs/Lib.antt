@@ -1,5 +1,6 @@
 pub mod Settings
 pub mod Mounts
 pub mod Lent
+pub mod Places
 pub mod Search
 pub mod Claims

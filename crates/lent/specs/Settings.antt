@@ -47,6 +47,9 @@ portNumber (some n) = leb 1 n && leb n 65535
 abbrev pub isPort : List ℕ → Bool
 isPort v = not (begins (48 ∷ []) v) && portNumber (numberOf v)
 
+abbrev pub portIn : List Header → List Header → Outcome (List ℕ)
+portIn facts site = then (sought (bytes "SERVER_PORT") facts site) (λ port. need (isPort port) 20 (gives port))
+
 -- "both there and not empty, or both absent"
 abbrev pub authOf : Option (List ℕ) → Option (List ℕ) → Outcome (Option Auth)
 authOf none none = gives none
@@ -58,10 +61,8 @@ authOf (some t) u =
 unfoldable pub settingsOf : List Header → List Header → Outcome Settings
 settingsOf facts site =
     then (sought (bytes "SERVER_NAME") facts site) (λ name.
-    then (sought (bytes "SERVER_PORT") facts site) (λ port.
-    need (isPort port) 20
-    (then (sought (bytes "SERVER_SOFTWARE") facts site) (λ software.
+    then (portIn facts site) (λ port.
+    then (sought (bytes "SERVER_SOFTWARE") facts site) (λ software.
     then (filled (valueIn (bytes "REMOTE_ADDR") facts)) (λ addr.
     then (authOf (valueIn (bytes "AUTH_TYPE") facts) (valueIn (bytes "REMOTE_USER") facts)) (λ auth.
-    gives
-    (record { auth = auth; remoteAddr = addr; serverName = name; serverPort = port; serverSoftware = software })))))))
+    gives (record { auth = auth; remoteAddr = addr; serverName = name; serverPort = port; serverSoftware = software }))))))

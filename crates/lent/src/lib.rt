@@ -1,2 +1,4 @@
 // What the gateway is lent: connection facts, site settings and mounts.
 pub mod search; // the mount that a path goes to
+mod blocks; // whether the three blocks are what they must be
+pub mod settings; // where the values stand

@@ -1,0 +1,111 @@
+-- `lent::blocks::all_mounts` meets its contract.
+-- Assumes nothing.
+use mathlib.Core.Path.{_≡_, sym, _∙_}
+use Prim.Native.Nat.{_-_, _≤_}
+use Prim.{absurd}
+use native.Mathlib.Omega.{arith}
+use lib.ListN.{length}
+use borrow.Author.Needs.{needs}
+use Rattle.lent.proofs.BlockSteps.{Walk, start, Step, step, always-header, no-more, other-first, slash-last, no-pool, is-mount}
+use Rattle.lent.proofs.blocks.all_mounts.Statement.{statement}
+use Rattle.lent.proofs.blocks.all_mounts.Tie as tie
+use Rattle.scgi.specs.Block.{headerIn, HeaderFound}
+use Rattle.scgi.specs.declared.block.HeaderPlace.the-variants.{At}
+
+abbrev Inv-loop : tie.InvT-loop
+Inv-loop block i₀ i = (i ≤ length block) × Walk block i
+
+abbrev μ-loop : tie.MeasureT-loop
+μ-loop block i₀ i = length block - i
+
+-- the header that was found at i
+found :
+    (c : tie.After-known-told Inv-loop μ-loop)
+    → HeaderFound (c .before .before .before .before .before .before .before .args .block .now) (c .before .before .before .before .before .loop .i) (At (c .before .h .given .0 .0) (c .before .h .given .0 .1 .0))
+found c = rw (c .before .h .given .1) at (c .before .before .before .header-at .ensures)
+
+header :
+    (c : tie.After-known-told Inv-loop μ-loop)
+    → (let l = c .before .before .before .before .before in
+    let b = l .before .before .args .block .now in
+    Step b (headerIn b (l .loop .i) (c .before .h .given .0 .0) (c .before .h .given .0 .1 .0)) (c .before .h .given .0 .1 .0))
+header c = step (c .before .before .before .before .before .loop .inv .1) _ _ (found c)
+
+loop-holds : tie.Need-loop-holds Inv-loop μ-loop
+loop-holds c = (search needs, start _ (c .before .pre))
+
+header-at-requires : tie.Need-header-at-requires Inv-loop μ-loop
+header-at-requires c κs = search needs
+
+enum-known-h : tie.Need-enum-known-h Inv-loop μ-loop
+enum-known-h c = search needs
+
+enum-told : tie.Need-enum-told Inv-loop μ-loop
+enum-told c = search needs
+
+returns : tie.Need-returns Inv-loop μ-loop
+returns c = absurd (always-header (c .before .before .before .before .loop .inv .1) _ (rw (c .enum-told .given .1) at (c .before .before .header-at .ensures)))
+
+shared-slice-read-if1 : tie.Need-shared-slice-read-if1 Inv-loop μ-loop
+shared-slice-read-if1 c = search needs
+
+returns-2 : tie.Need-returns-2 Inv-loop μ-loop
+returns-2 c =
+    let k = c .before .before in
+    header k .bad (other-first _ _ _ _ (found k .order) (c .if1 .taken))
+
+sub-if2 : tie.Need-sub-if2 Inv-loop μ-loop
+sub-if2 c = omega (arith, found (c .before .before) .order)
+
+shared-slice-read-if2 : tie.Need-shared-slice-read-if2 Inv-loop μ-loop
+shared-slice-read-if2 c = omega (arith, found (c .before .before .before) .order)
+
+returns-3 : tie.Need-returns-3 Inv-loop μ-loop
+returns-3 c =
+    let k = c .before .before .before .before in
+    header k .bad (slash-last _ _ _ _ (found k .order) (c .before .before .if1 .left) (c .if2 .taken))
+
+add-if3 : tie.Need-add-if3 Inv-loop μ-loop
+add-if3 c = omega (arith, found (c .before .before .before .before) .order)
+
+returns-4 : tie.Need-returns-4 Inv-loop μ-loop
+returns-4 c =
+    let k = c .before .before .before .before .before in
+    header k .bad (no-pool _ _ _ _ (found k .order) (c .before .before .before .if1 .left) (c .before .if2 .left) (c .if3 .taken))
+
+add-i : tie.Need-add-i Inv-loop μ-loop
+add-i c = omega (arith, found (c .before .before .before .before .before) .order)
+
+loop-less : tie.Need-loop-less Inv-loop μ-loop
+loop-less c = omega (arith, found (c .before .before .before .before .before) .order)
+
+loop-again : tie.Need-loop-again Inv-loop μ-loop
+loop-again c =
+    let k = c .before .before .before .before .before in
+    (omega (arith, found k .order), header k .good (is-mount _ _ _ _ (found k .order) (c .before .before .before .if1 .left) (c .before .if2 .left) (c .if3 .left)))
+
+returns-5 : tie.Need-returns-5 Inv-loop μ-loop
+returns-5 c = no-more (c .before .loop .inv .1) (c .loop-test .left)
+
+pub all-mounts-spec : {M : Type 1} → statement M
+all-mounts-spec =
+    tie.close
+    (tie.spec
+    Inv-loop
+    μ-loop
+    loop-holds
+    header-at-requires
+    enum-known-h
+    enum-told
+    returns
+    shared-slice-read-if1
+    returns-2
+    sub-if2
+    shared-slice-read-if2
+    returns-3
+    add-if3
+    returns-4
+    add-i
+    loop-less
+    loop-again
+    returns-5)

@@ -1,0 +1,221 @@
+// Where the values stand that connection facts and site settings give.
+ghost use mathlib.Core.Path.{_≡_};
+ghost use mathlib.Core.Bool.{true, cond};
+ghost use lib.Dec.{eqb};
+ghost use Rattle.scgi.specs.Block.{wellFormed};
+ghost use Rattle.lent.specs.Settings.{isPort};
+ghost use Rattle.lent.specs.declared.settings.Value.the-variants.{At, Breach};
+ghost use Rattle.lent.specs.Places.{FactFound, AuthFound, ValueFound, PortFound, SettingsFound};
+use octets::decimal;
+use octets::decimal::Number;
+use scgi::lookup::Place;
+use scgi::lookup::seek;
+use scgi::setting::Where;
+use scgi::setting::find_setting;
+
+// A value in the connection facts.
+pub struct FactPlace {
+    pub start: usize,
+    pub len: usize,
+}
+
+// A value in the site settings, or else in the connection facts.
+pub struct ValuePlace {
+    pub site: bool,
+    pub start: usize,
+    pub len: usize,
+}
+
+pub enum AuthPlaces {
+    Given {
+        auth_type: FactPlace,
+        remote_user: FactPlace,
+    },
+    Absent,
+}
+
+pub struct SettingPlaces {
+    pub auth: AuthPlaces,
+    pub addr: FactPlace, // REMOTE_ADDR
+    pub name: ValuePlace, // SERVER_NAME
+    pub port: ValuePlace, // SERVER_PORT
+    pub software: ValuePlace, // SERVER_SOFTWARE
+}
+
+// The answers of the steps. Every breach has the number 20.
+pub enum Fact {
+    At(FactPlace),
+    Breach,
+}
+
+pub enum Auth {
+    At(AuthPlaces),
+    Breach,
+}
+
+pub enum Value {
+    At(ValuePlace),
+    Breach,
+}
+
+pub enum Settings {
+    At(SettingPlaces),
+    Breach,
+}
+
+// The value of a name in the connection facts, there and not empty.
+fn find_fact(facts: &[u8], name: &[u8]) -> Fact
+    requires { ⌜ wellFormed (now facts) ≡ true ⌝ }
+    ensures { λ r. ⌜ FactFound (now (facts .entry)) (now (name .entry)) r ⌝ }
+{
+    let p = seek(facts, name);
+    let Place::At { start, len } = p else {
+        return Fact::Breach;
+    };
+    if len == 0 {
+        return Fact::Breach;
+    }
+    Fact::At(FactPlace { start, len })
+}
+
+// AUTH_TYPE and REMOTE_USER, both there and not empty, or both absent.
+fn find_auth(facts: &[u8]) -> Auth
+    requires { ⌜ wellFormed (now facts) ≡ true ⌝ }
+    ensures { λ r. ⌜ AuthFound (now (facts .entry)) r ⌝ }
+{
+    let t = seek(facts, b"AUTH_TYPE");
+    let u = seek(facts, b"REMOTE_USER");
+    match t {
+        Place::Refused(_) => Auth::Breach,
+        Place::Absent => match u {
+            Place::Refused(_) => Auth::Breach,
+            Place::Absent => Auth::At(AuthPlaces::Absent),
+            Place::At { start: _, len: _ } => Auth::Breach,
+        },
+        Place::At { start, len } => match u {
+            Place::Refused(_) => Auth::Breach,
+            Place::Absent => Auth::Breach,
+            Place::At {
+                start: user_start,
+                len: user_len,
+            } => {
+                if len == 0 {
+                    return Auth::Breach;
+                }
+                if user_len == 0 {
+                    return Auth::Breach;
+                }
+                let auth_type = FactPlace { start, len };
+                let remote_user = FactPlace {
+                    start: user_start,
+                    len: user_len,
+                };
+                Auth::At(AuthPlaces::Given {
+                    auth_type,
+                    remote_user,
+                })
+            }
+        },
+    }
+}
+
+// A value that was found, not empty.
+fn filled(site: bool, start: usize, len: usize) -> Value
+    ensures { λ r. ⌜ r ≡ cond (eqb len 0) Breach (At (record { site = site; start = start; len = len })) ⌝ }
+{
+    if len == 0 {
+        return Value::Breach;
+    }
+    Value::At(ValuePlace { site, start, len })
+}
+
+// The value of a name in the connection facts, or else in the site settings; there and not empty.
+fn find_value(facts: &[u8], site: &[u8], name: &[u8]) -> Value
+    requires { ⌜ (wellFormed (now facts) ≡ true) × (wellFormed (now site) ≡ true) ⌝ }
+    ensures { λ r. ⌜ ValueFound (now (facts .entry)) (now (site .entry)) (now (name .entry)) r ⌝ }
+{
+    let w = find_setting(facts, site, name);
+    match w {
+        Where::First { start, len } => filled(false, start, len),
+        Where::Second { start, len } => filled(true, start, len),
+        Where::Absent => Value::Breach,
+        Where::Refused(_) => Value::Breach,
+    }
+}
+
+// Whether a value is 1 to 65535 in digits without a leading zero.
+fn is_port(v: &[u8]) -> bool
+    ensures { λ r. ⌜ r ≡ isPort (now (v .entry)) ⌝ }
+{
+    if v.len() == 0 {
+        return false;
+    }
+    if v[0] == b'0' {
+        return false;
+    }
+    let n = decimal::read(v);
+    let Number::Value(port) = n else {
+        return false;
+    };
+    if port < 1 {
+        return false;
+    }
+    port <= 65535
+}
+
+// The port's value.
+fn find_port(facts: &[u8], site: &[u8]) -> Value
+    requires { ⌜ (wellFormed (now facts) ≡ true) × (wellFormed (now site) ≡ true) ⌝ }
+    ensures { λ r. ⌜ PortFound (now (facts .entry)) (now (site .entry)) r ⌝ }
+{
+    let v = find_value(facts, site, b"SERVER_PORT");
+    let Value::At(p) = v else {
+        return Value::Breach;
+    };
+    let start = p.start;
+    let end = start + p.len;
+    if p.site {
+        if !is_port(&site[start..end]) {
+            return Value::Breach;
+        }
+        return v;
+    }
+    if !is_port(&facts[start..end]) {
+        return Value::Breach;
+    }
+    v
+}
+
+// The places of all values.
+pub fn find_settings(facts: &[u8], site: &[u8]) -> Settings
+    requires { ⌜ (wellFormed (now facts) ≡ true) × (wellFormed (now site) ≡ true) ⌝ }
+    ensures { λ r. ⌜ SettingsFound (now (facts .entry)) (now (site .entry)) r ⌝ }
+{
+    let n = find_value(facts, site, b"SERVER_NAME");
+    let Value::At(name) = n else {
+        return Settings::Breach;
+    };
+    let p = find_port(facts, site);
+    let Value::At(port) = p else {
+        return Settings::Breach;
+    };
+    let s = find_value(facts, site, b"SERVER_SOFTWARE");
+    let Value::At(software) = s else {
+        return Settings::Breach;
+    };
+    let r = find_fact(facts, b"REMOTE_ADDR");
+    let Fact::At(addr) = r else {
+        return Settings::Breach;
+    };
+    let a = find_auth(facts);
+    let Auth::At(auth) = a else {
+        return Settings::Breach;
+    };
+    Settings::At(SettingPlaces {
+        auth,
+        addr,
+        name,
+        port,
+        software,
+    })
+}
