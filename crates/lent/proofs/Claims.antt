@@ -1,10 +1,20 @@
 -- Each claim of specs/Claims.antt, proved. Crates above cite this file and no other of this folder.
 -- Assumes nothing.
-use Rattle.lent.specs.Claims.{LongestWins, RouteIsPath}
+use Rattle.lent.specs.Claims.{LongestWins, RouteIsPath, LentNumber, LentMounts, PlacesAreLent}
 use Rattle.lent.proofs.Mounts as Mounts
+use Rattle.lent.proofs.CheckSteps as CheckSteps
 
 pub longest-wins : LongestWins
 longest-wins = Mounts.longest-wins
 
 pub route-is-path : RouteIsPath
 route-is-path = Mounts.route-is-path
+
+pub lent-number : LentNumber
+lent-number = CheckSteps.lent-number
+
+pub lent-mounts : LentMounts
+lent-mounts = CheckSteps.lent-mounts
+
+pub places-are-lent : PlacesAreLent
+places-are-lent = CheckSteps.places-are-lent
