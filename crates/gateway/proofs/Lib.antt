@@ -8,4 +8,5 @@ pub mod Accepted
 pub mod Exactly
 pub mod Pipelines
 pub mod Numbers
+pub mod NamedFields
 pub mod Claims

@@ -2,4 +2,5 @@ pub mod Fields
 pub mod Meaning
 pub mod Variables
 pub mod Step
+pub mod Rules
 pub mod Claims
