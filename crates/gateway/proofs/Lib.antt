@@ -9,4 +9,5 @@ pub mod Exactly
 pub mod Pipelines
 pub mod Numbers
 pub mod NamedFields
+pub mod RuleSteps
 pub mod Claims

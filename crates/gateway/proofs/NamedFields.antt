@@ -13,7 +13,7 @@ use borrow.Author.Tests.{lt-ltb}
 use Rattle.octets.specs.Compare.{sameBytes, lowerOf, sameLetters}
 use Rattle.http.specs.Fields.{Field, fieldAt, fieldsAt}
 use Rattle.http.proofs.Places.{fields-next, fields-end}
-use Rattle.gateway.specs.Fields.{lowered, valuesOf, firstOf}
+use Rattle.gateway.specs.Fields.{lowered, valuesOf}
 use Rattle.gateway.specs.Rules.{partIf, FoundIn}
 
 -- One value more.
@@ -91,9 +91,6 @@ module _ {head ps name : List ℕ} {n k count start len : ℕ} (s : Seen head ps
       → ((vs : List (List ℕ)) → FoundIn head vs count start len → FoundIn head (vs ++ valuesOf (map lowerOf name) (lowered (fieldAt head ps k ∷ []))) count′ start′ len′)
       → Seen head ps name n (k + 1) count′ start′ len′
   onward h count′ start′ len′ more =
-      let nm : List ℕ = map lowerOf name in
-      let one : List (List ℕ) = valuesOf (map lowerOf name) (lowered (fieldAt head ps k ∷ [])) in
-      let rest : List (List ℕ) = valuesOf (map lowerOf name) (lowered (fieldsAt head ps (k + 1) (n - (k + 1)))) in
       let f = more (s .values) (s .found) in
       record {
         values = s .values ++ valuesOf (map lowerOf name) (lowered (fieldAt head ps k ∷ []));

@@ -6,7 +6,6 @@ use Rattle.gateway.proofs.rules.stored_name.Tie as tie
 use Rattle.octets.proofs.Lists.{part}
 use borrow.Author.Needs.{needs}
 use lib.ListN.{getD}
-use native.Mathlib.Omega.{arith}
 
 mul-start : tie.Need-mul-start
 mul-start c = search needs
