@@ -3,7 +3,7 @@
 use Prim.Native.Nat.{ℕ, _+_, _-_, _*_, _≤_, _<_}
 use Prim.{absurd}
 use mathlib.Core.Path.{_≡_, refl, sym, ap, _∙_}
-use mathlib.Core.Bool.{Bool, true, false, not, _&&_}
+use mathlib.Core.Bool.{Bool, true, false, _&&_}
 use mathlib.Core.List.{List, [], _∷_, _++_}
 use mathlib.Core.Option.{Option, none, some}
 use native.Mathlib.Omega.{arith}
@@ -11,10 +11,10 @@ use lib.Dec.{eqb, leb}
 use lib.ListN.{length, take, drop, getD, length-take, length-drop, drop-of-length-le}
 use borrow.Author.Tests.{eq-eqb, ne-eqb, le-leb, lt-leb}
 use Rattle.octets.specs.Outcome.{Outcome, refused, gives, then, need, given}
-use Rattle.octets.specs.Lists.{isNil, different}
+use Rattle.octets.specs.Lists.{different}
 use Rattle.octets.specs.Parts.{parted}
 use Rattle.octets.proofs.Lists.{part-first, part-last, nil-empty, nil-filled}
-use Rattle.octets.proofs.Outcomes.{given-gives, then-gives}
+use Rattle.octets.proofs.Outcomes.{Gave, given-gives, then-gives}
 use Rattle.scgi.specs.Block.{Header, names, headersOf, paired, parsed, wellFormed, countOf, headerIn, HeaderFound}
 use Rattle.scgi.specs.Claims.{Headed}
 use Rattle.scgi.specs.declared.block.HeaderPlace.the-variants.{At, Refused}
@@ -142,27 +142,24 @@ module _ (limit : ℕ) (b : List ℕ) where
         short ∙ rw z
 
 -- the headers of a block that has n
-pub record Counted (b : List ℕ) (n : ℕ) : Type 0 where
-  pub hs : List Header
-  pub is : parsed b ≡ gives hs
-  pub count : length hs ≡ n
+pub counted : (b : List ℕ) (n : ℕ) → countOf b ≡ gives n → Gave (parsed b) (λ hs. gives (length hs)) n
+counted b n e = then-gives (parsed b) (λ hs. gives (length hs)) n e
 
-pub counted : (b : List ℕ) (n : ℕ) → countOf b ≡ gives n → Counted b n
-counted b n e =
-    let g = then-gives (parsed b) (λ hs. gives (length hs)) n e in
-    let q : gives (length (g .it)) ≡ gives n = g .next in
-    record { hs = g .it; is = g .first; count = cc }
+count : (b : List ℕ) (n : ℕ) (e : countOf b ≡ gives n) → length (counted b n e .it) ≡ n
+count b n e =
+    let q : gives (length (counted b n e .it)) ≡ gives n = counted b n e .next in
+    cc
 
 -- two numbers for each header of a block of 1,024 bytes
 pub few-names : (b : List ℕ) (n : ℕ) → countOf b ≡ gives n → length b ≤ 1024 → 2 * n ≤ 682
 few-names b n e l =
     let g = counted b n e in
-    omega (arith, headers-few b (g .hs) (g .is), g .count)
+    omega (arith, headers-few b (g .it) (g .first), count b n e)
 
 pub block-is : (limit : ℕ) (b : List ℕ) (n : ℕ) (r : Bool) → countOf b ≡ gives n → length b ≤ limit → then (parsed b) (λ hs. gives (different (names hs))) ≡ gives r → need r 20 (parsed b) ≡ blockOf limit b
 block-is limit b n r e l d =
     let g = counted b n e in
-    rw (g .is) (sym (by-names limit b (g .hs) (g .is) l r d))
+    rw (g .first) (sym (by-names limit b (g .it) (g .first) l r d))
 
 -- Mounts.
 
@@ -177,7 +174,7 @@ module _ (b : List ℕ) where
     pub many-mounts : 32 < n → mountsOf b ≡ refused 20
     many-mounts h =
         let g = counted b n e in
-        rw (short 4096 b (g .hs) (g .is) l) (by (g .hs) (different (names (g .hs))) (lt-leb (length (g .hs)) 32 (omega (arith, g .count))))
+        rw (short 4096 b (g .it) (g .first) l) (by (g .it) (different (names (g .it))) (lt-leb (length (g .it)) 32 (omega (arith, count b n e))))
       where
         by :
             (hs : List Header) (t : Bool) → leb (length hs) 32 ≡ false
@@ -188,14 +185,14 @@ module _ (b : List ℕ) where
     pub equal-mounts : then (parsed b) (λ hs. gives (different (names hs))) ≡ gives false → mountsOf b ≡ refused 20
     equal-mounts d =
         let g = counted b n e in
-        rw (by-names 4096 b (g .hs) (g .is) l false d)
+        rw (by-names 4096 b (g .it) (g .first) l false d)
 
     pub mounts-are : n ≤ 32 → then (parsed b) (λ hs. gives (different (names hs))) ≡ gives true → (r : Bool) → mountsIn b ≡ gives r → need r 20 (parsed b) ≡ mountsOf b
     mounts-are h d r m =
         let g = counted b n e in
-        let q : gives (allMounts (g .hs)) ≡ gives r = rw (g .is) at m in
-        let z : allMounts (g .hs) ≡ r = cc in
-        rw (by-names 4096 b (g .hs) (g .is) l true d, g .is) (rw (le-leb (length (g .hs)) 32 (omega (arith, g .count)), z))
+        let q : gives (allMounts (g .it)) ≡ gives r = rw (g .first) at m in
+        let z : allMounts (g .it) ≡ r = cc in
+        rw (by-names 4096 b (g .it) (g .first) l true d, g .first) (rw (le-leb (length (g .it)) 32 (omega (arith, count b n e)), z))
 
 -- A block that is refused or not is 20 or its headers.
 

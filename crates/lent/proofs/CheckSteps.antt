@@ -23,7 +23,7 @@ use Rattle.lent.specs.Places.{settingsAt, SettingsFound}
 use Rattle.lent.specs.Check.{LentFound}
 use Rattle.lent.specs.Claims.{LentNumber, LentMounts, Accepted, PlacesAreLent}
 use Rattle.lent.specs.declared.check.Checked.the-variants.{Lent as CheckedLent, Refused}
-use Rattle.lent.specs.declared.settings.SettingPlaces.{SettingPlaces}
+use Rattle.lent.specs.declared.places.SettingPlaces.{SettingPlaces}
 use Rattle.lent.specs.declared.settings.Settings.the-variants.{At as SettingsAt, Breach as SettingsBreach}
 use Rattle.lent.proofs.BlockSteps.{block-headed, mounts-headed}
 

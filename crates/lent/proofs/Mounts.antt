@@ -8,15 +8,15 @@ use mathlib.Core.List.{List, [], _∷_, _++_}
 use mathlib.Core.Option.{Option, none, some}
 use native.Mathlib.Omega.{arith}
 use lib.Dec.{eqb, leb}
-use lib.ListN.{length, take, drop, getD, length-append, drop-of-length-le}
+use lib.ListN.{length, take, drop, getD, length-append}
 use lib.Seq.{take-suc}
 use borrow.Author.Tests.{eq-eqb, ne-eqb, eqb-true, eqb-false, le-leb, lt-leb}
 use Rattle.octets.specs.Compare.{sameBytes}
 use Rattle.octets.proofs.Bools.{and-left, and-right, and-false}
-use Rattle.octets.proofs.Compares.{same-true, same-refl}
+use Rattle.octets.proofs.Compares.{same-true}
 use Rattle.scgi.specs.Block.{Header}
 use Rattle.scgi.specs.Lookup.{valueIn}
-use Rattle.lent.specs.Mounts.{begins, fits, longer, mountOf, routeOf, beforeSlash, shortened, mountNamed, orShorter, triedIn}
+use Rattle.lent.specs.Mounts.{begins, fits, longer, mountOf, beforeSlash, shortened, mountNamed, orShorter, triedIn}
 use Rattle.lent.specs.Claims.{LongestWins, RouteIsPath}
 
 -- Bytes that begin with others.

@@ -15,7 +15,7 @@ use Rattle.scgi.specs.Lookup.{Part, partOption, valueIn, placeIn, lookupOf}
 use Rattle.scgi.specs.Claims.{Headed}
 use Rattle.scgi.proofs.Claims.{well-formed-headed, lookup-finds-value, places-inside}
 use Rattle.lent.specs.Mounts.{mountOf, mountFor, shortened}
-use Rattle.lent.specs.Search.{mountOutcome, MountInside, MountFound}
+use Rattle.lent.specs.Search.{MountFound}
 use Rattle.lent.specs.declared.search.Mount.{Mount}
 use Rattle.lent.specs.declared.search.Mount.the-variants.{Found, Refused}
 use Rattle.lent.proofs.Mounts.{path-named, no-segment, last-segment, shortened-shorter}

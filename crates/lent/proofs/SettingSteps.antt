@@ -3,14 +3,14 @@
 use Prim.Native.Nat.{ℕ, min, _+_, _-_, _≤_, _<_}
 use Prim.{absurd}
 use mathlib.Core.Path.{_≡_, refl, sym, ap, _∙_}
-use mathlib.Core.Bool.{Bool, true, false, cond, not, _&&_}
+use mathlib.Core.Bool.{Bool, true, false, cond, _&&_}
 use mathlib.Core.List.{List, [], _∷_}
 use mathlib.Core.Logic.{_⊎_, inl, inr}
 use mathlib.Core.Option.{Option, none, some}
 use native.Mathlib.Omega.{arith}
 use lib.Dec.{eqb, leb}
 use lib.ListN.{length, take, drop, getD, length-take, length-drop}
-use borrow.Author.Tests.{eq-eqb, ne-eqb, eqb-true, eqb-false, le-leb, lt-leb, leb-true, leb-false}
+use borrow.Author.Tests.{eq-eqb, ne-eqb, eqb-true, eqb-false, lt-leb, leb-true, leb-false}
 use denote.Enum.Declared.{tagOf}
 use types.Run.{OneOf}
 use Rattle.octets.specs.Text.{bytes}
@@ -30,11 +30,10 @@ use Rattle.scgi.proofs.lookup.Place.{the-type}
 use Rattle.lent.specs.Mounts.{begins}
 use Rattle.lent.specs.Settings.{filled, orIn, sought, portNumber, isPort, portIn, authOf, settingsOf}
 use Rattle.lent.specs.Places.{valueAt, factOutcome, authOutcome, valueOutcome, settingsOutcome, SettingsIn, FactFound, AuthFound, ValueFound, PortFound, SettingsFound}
-use Rattle.lent.specs.declared.settings.FactPlace.{FactPlace}
-use Rattle.lent.specs.declared.settings.ValuePlace.{ValuePlace}
-use Rattle.lent.specs.declared.settings.AuthPlaces.{AuthPlaces}
-use Rattle.lent.specs.declared.settings.AuthPlaces.the-variants.{Given, Absent as NoAuth}
-use Rattle.lent.specs.declared.settings.SettingPlaces.{SettingPlaces}
+use Rattle.lent.specs.declared.places.FactPlace.{FactPlace}
+use Rattle.lent.specs.declared.places.ValuePlace.{ValuePlace}
+use Rattle.lent.specs.declared.places.AuthPlaces.{AuthPlaces}
+use Rattle.lent.specs.declared.places.AuthPlaces.the-variants.{Given, Absent as NoAuth}
 use Rattle.lent.specs.declared.settings.Fact.{Fact}
 use Rattle.lent.specs.declared.settings.Fact.the-variants.{At as FactAt, Breach as FactBreach}
 use Rattle.lent.specs.declared.settings.Auth.{Auth}

@@ -10,7 +10,7 @@ use Rattle.lent.specs.Lent.{Lent, lentOf}
 use Rattle.lent.specs.Mounts.{mountOf, tried, routeOf}
 use Rattle.lent.specs.Places.{settingsAt}
 use Rattle.lent.specs.Check.{LentFound}
-use Rattle.lent.specs.declared.settings.SettingPlaces.{SettingPlaces}
+use Rattle.lent.specs.declared.places.SettingPlaces.{SettingPlaces}
 use Rattle.lent.specs.declared.check.Checked.the-variants.{Lent as CheckedLent}
 
 -- trying the path, then the path without its last segment, and so on, finds the mount that wins: "the longest mount that fits wins"

@@ -12,11 +12,11 @@ use Rattle.scgi.specs.Block.{parsed}
 use Rattle.scgi.specs.Lookup.{valueIn}
 use Rattle.lent.specs.Settings as Values
 use Rattle.lent.specs.Settings.{filled, sought, portIn, authOf, settingsOf}
-use Rattle.lent.specs.declared.settings.FactPlace.{FactPlace}
-use Rattle.lent.specs.declared.settings.ValuePlace.{ValuePlace}
-use Rattle.lent.specs.declared.settings.AuthPlaces.{AuthPlaces}
-use Rattle.lent.specs.declared.settings.AuthPlaces.the-variants.{Given, Absent}
-use Rattle.lent.specs.declared.settings.SettingPlaces.{SettingPlaces}
+use Rattle.lent.specs.declared.places.FactPlace.{FactPlace}
+use Rattle.lent.specs.declared.places.ValuePlace.{ValuePlace}
+use Rattle.lent.specs.declared.places.AuthPlaces.{AuthPlaces}
+use Rattle.lent.specs.declared.places.AuthPlaces.the-variants.{Given, Absent}
+use Rattle.lent.specs.declared.places.SettingPlaces.{SettingPlaces}
 use Rattle.lent.specs.declared.settings.Fact.{Fact}
 use Rattle.lent.specs.declared.settings.Fact.the-variants.{At as FactAt, Breach as FactBreach}
 use Rattle.lent.specs.declared.settings.Auth.{Auth}

@@ -2,7 +2,7 @@
 ghost use Rattle.lent.specs.Check.{LentFound};
 use crate::blocks::is_block;
 use crate::blocks::is_mounts;
-use crate::settings::SettingPlaces;
+use crate::places::SettingPlaces;
 use crate::settings::Settings;
 use crate::settings::find_settings;
 

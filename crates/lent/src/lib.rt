@@ -1,5 +1,6 @@
 // What the gateway is lent: connection facts, site settings and mounts.
 pub mod check; // all that is lent
-mod blocks; // whether the three blocks are what they must be
-pub mod settings; // where the values stand
+pub mod places; // where the values stand
 pub mod search; // the mount that a path goes to
+mod blocks; // whether the three blocks are what they must be
+mod settings; // finding the values

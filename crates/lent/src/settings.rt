@@ -1,4 +1,4 @@
-// Where the values stand that connection facts and site settings give.
+// Finding the values that connection facts and site settings give.
 ghost use mathlib.Core.Path.{_≡_};
 ghost use mathlib.Core.Bool.{true, cond};
 ghost use lib.Dec.{eqb};
@@ -6,41 +6,16 @@ ghost use Rattle.scgi.specs.Block.{wellFormed};
 ghost use Rattle.lent.specs.Settings.{isPort};
 ghost use Rattle.lent.specs.declared.settings.Value.the-variants.{At, Breach};
 ghost use Rattle.lent.specs.Places.{FactFound, AuthFound, ValueFound, PortFound, SettingsFound};
+use crate::places::AuthPlaces;
+use crate::places::FactPlace;
+use crate::places::SettingPlaces;
+use crate::places::ValuePlace;
 use octets::decimal;
 use octets::decimal::Number;
 use scgi::lookup::Place;
 use scgi::lookup::seek;
 use scgi::setting::Where;
 use scgi::setting::find_setting;
-
-// A value in the connection facts.
-pub struct FactPlace {
-    pub start: usize,
-    pub len: usize,
-}
-
-// A value in the site settings, or else in the connection facts.
-pub struct ValuePlace {
-    pub site: bool,
-    pub start: usize,
-    pub len: usize,
-}
-
-pub enum AuthPlaces {
-    Given {
-        auth_type: FactPlace,
-        remote_user: FactPlace,
-    },
-    Absent,
-}
-
-pub struct SettingPlaces {
-    pub auth: AuthPlaces,
-    pub addr: FactPlace, // REMOTE_ADDR
-    pub name: ValuePlace, // SERVER_NAME
-    pub port: ValuePlace, // SERVER_PORT
-    pub software: ValuePlace, // SERVER_SOFTWARE
-}
 
 // The answers of the steps. Every breach has the number 20.
 pub enum Fact {

@@ -1,6 +1,5 @@
 -- `lent::blocks::all_mounts` meets its contract.
 -- Assumes nothing.
-use mathlib.Core.Path.{_≡_, sym, _∙_}
 use Prim.Native.Nat.{_-_, _≤_}
 use Prim.{absurd}
 use native.Mathlib.Omega.{arith}

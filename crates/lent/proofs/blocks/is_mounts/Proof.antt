@@ -9,7 +9,7 @@ use Rattle.lent.proofs.BlockSteps.{long-mounts, malformed-mounts, many-
 use Rattle.lent.proofs.blocks.is_mounts.Statement.{statement}
 use Rattle.lent.proofs.blocks.is_mounts.Tie as tie
 use Rattle.octets.specs.Outcome.{gives}
-use Rattle.scgi.specs.Block.{countOutcome, countOf, wellFormed}
+use Rattle.scgi.specs.Block.{countOutcome, countOf}
 use Rattle.scgi.proofs.Claims.{well-formed-headed}
 
 -- the headers, where the pattern matched
@@ -49,7 +49,7 @@ returns-4 c =
 all-mounts-requires : tie.Need-all-mounts-requires
 all-mounts-requires c κs =
     let g = counted _ _ (count (c .before .before .before)) in
-    well-formed-headed _ .1 (record { hs = g .hs; is = g .is })
+    well-formed-headed _ .1 (record { hs = g .it; is = g .first })
 
 returns-5 : tie.Need-returns-5
 returns-5 c =

@@ -1,7 +1,7 @@
 -- `lent::settings::find_auth` meets its contract.
 -- Assumes nothing.
 use mathlib.Core.Path.{_≡_, sym, ap, _∙_}
-use mathlib.Core.Option.{none, some}
+use mathlib.Core.Option.{some}
 use Prim.{absurd}
 use Rattle.lent.proofs.Searches.{always-looked}
 use Rattle.lent.proofs.SettingSteps.{no-auth, user-alone, type-alone, empty-type, empty-user, is-auth}

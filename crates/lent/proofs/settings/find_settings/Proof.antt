@@ -1,9 +1,7 @@
 -- `lent::settings::find_settings` meets its contract.
 -- Assumes nothing.
-use mathlib.Core.Path.{_≡_}
 use Rattle.lent.proofs.SettingSteps.{no-name, no-port, no-software, no-addr, wrong-auth, all-found}
-use Rattle.lent.specs.Places.{FactFound, AuthFound, ValueFound, PortFound}
-use Rattle.lent.specs.declared.settings.Auth.the-variants.{At as AuthAt}
+use Rattle.lent.specs.Places.{FactFound, ValueFound, PortFound}
 use Rattle.lent.specs.declared.settings.Fact.the-variants.{At as FactAt}
 use Rattle.lent.specs.declared.settings.Value.the-variants.{At as ValueAt}
 use Rattle.octets.specs.Text.{bytes}

@@ -1,6 +1,6 @@
 -- `lent::settings::find_value` meets its contract.
 -- Assumes nothing.
-use mathlib.Core.Path.{_≡_, sym, ap, _∙_}
+use mathlib.Core.Path.{sym, ap, _∙_}
 use Prim.{absurd}
 use Rattle.lent.proofs.SettingSteps.{always-sought, no-value, first-value, second-value}
 use Rattle.scgi.specs.Setting.{settingOutcome}
