@@ -10,4 +10,5 @@ pub mod Pipelines
 pub mod Numbers
 pub mod NamedFields
 pub mod RuleSteps
+pub mod RequestSteps
 pub mod Claims

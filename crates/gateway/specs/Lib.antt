@@ -3,4 +3,5 @@ pub mod Meaning
 pub mod Variables
 pub mod Step
 pub mod Rules
+pub mod RequestRead
 pub mod Claims
