@@ -11,6 +11,7 @@ pub mod Numbers
 pub mod Worked
 pub mod NamedFields
 pub mod RuleSteps
+pub mod RequestSteps
 pub mod Claims
 pub mod Puts
 pub mod FixedVariables

@@ -3,6 +3,7 @@ pub mod Meaning
 pub mod Variables
 pub mod Step
 pub mod Rules
+pub mod RequestRead
 pub mod Claims
 pub mod Put
 pub mod FixedBytes
