@@ -9,5 +9,8 @@ pub mod Exactly
 pub mod Pipelines
 pub mod Numbers
 pub mod Worked
+pub mod NamedFields
+pub mod RuleSteps
 pub mod Claims
 pub mod Puts
+pub mod FixedVariables

@@ -17,7 +17,7 @@ use Rattle.http.proofs.Numbers.{head-numbers, line-numbers, target-numbers, fie
 use Rattle.lent.specs.Settings.{Settings}
 use Rattle.lent.specs.Mounts.{Route, mountOf, routeOf}
 use Rattle.lent.specs.Lent.{Lent, lentOf}
-use Rattle.lent.proofs.Claims.{breach-is-twenty}
+use Rattle.lent.proofs.Claims.{lent-number}
 use Rattle.gateway.specs.Fields.{lowered, valuesOf}
 use Rattle.gateway.specs.Meaning.{Meaning, meaningOf}
 use Rattle.gateway.specs.Variables.{variables}
@@ -74,7 +74,7 @@ lent-numbers facts site mounts = by (lentOf facts site mounts) refl
   where
     by : (o : Outcome Lent) → lentOf facts site mounts ≡ o → Refuses stepNumbers o
     by (gives l) e = not-refused
-    by (refused n) e = with-number (ap (oneOf stepNumbers) (breach-is-twenty facts site mounts n e))
+    by (refused n) e = with-number (ap (oneOf stepNumbers) (lent-number facts site mounts n e))
 
 forward-numbers : (lent : Outcome Lent) → Refuses stepNumbers lent → (http : List ℕ) → Refuses stepNumbers (forwardOf lent http)
 unfolding forwardOf

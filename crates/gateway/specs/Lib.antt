@@ -2,5 +2,7 @@ pub mod Fields
 pub mod Meaning
 pub mod Variables
 pub mod Step
+pub mod Rules
 pub mod Claims
 pub mod Put
+pub mod FixedBytes

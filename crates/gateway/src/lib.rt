@@ -1,2 +1,4 @@
-// From an HTTP request to SCGI bytes: the definitions and what is claimed of them.
+// From an HTTP request to SCGI bytes.
+pub mod rules; // the rules over all fields of a request
 pub mod put; // variables, written one after the other
+pub mod fixed_variables; // the variables before the fields

@@ -196,3 +196,30 @@ module _ (b : List ℕ) where
         let q : gives (allMounts (g .hs)) ≡ gives r = rw (g .is) at m in
         let z : allMounts (g .hs) ≡ r = cc in
         rw (by-names 4096 b (g .hs) (g .is) l true d, g .is) (rw (le-leb (length (g .hs)) 32 (omega (arith, g .count)), z))
+
+-- A block that is refused or not is 20 or its headers.
+
+five-twenty : {A : Type 0} → _≡_ {A = Outcome A} (refused 5) (refused 20) → ⊥
+five-twenty e =
+    let z : _≡_ {A = ℕ} 5 20 = cc in
+    omega arith
+
+pub block-headed : (limit : ℕ) (b : List ℕ) → parsed b ≡ blockOf limit b → Headed b
+block-headed limit b e = by (headersOf b) refl e
+  where
+    by :
+        (o : Option (List Header)) → headersOf b ≡ o
+        → given o 5 ≡ need (leb (length b) limit) 20 (then (given o 20) (λ hs. need (different (names hs)) 20 (gives hs))) → Headed b
+    by none p q = absurd (five-twenty (q ∙ need-refused (leb (length b) limit)))
+    by (some hs) p q = record { hs = hs; is = rw p }
+
+pub mounts-headed : (b : List ℕ) → parsed b ≡ mountsOf b → Headed b
+mounts-headed b e = by (headersOf b) refl e
+  where
+    by :
+        (o : Option (List Header)) → headersOf b ≡ o
+        → given o 5
+        ≡ then (need (leb (length b) 4096) 20 (then (given o 20) (λ hs. need (different (names hs)) 20 (gives hs)))) (λ ms. need (leb (length ms) 32) 20 (need (allMounts ms) 20 (gives ms)))
+        → Headed b
+    by none p q = absurd (five-twenty (q ∙ rw (need-refused (leb (length b) 4096))))
+    by (some hs) p q = record { hs = hs; is = rw p }

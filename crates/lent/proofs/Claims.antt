@@ -1,7 +1,8 @@
 -- Each claim of specs/Claims.antt, proved. Crates above cite this file and no other of this folder.
 -- Assumes nothing.
-use Rattle.lent.specs.Claims.{LongestWins, RouteIsPath, WinnerIsMount, LentIsProper, BreachIsTwenty}
+use Rattle.lent.specs.Claims.{LongestWins, RouteIsPath, WinnerIsMount, LentNumber, LentMounts, LentIsProper, PlacesAreLent}
 use Rattle.lent.proofs.Mounts as Mounts
+use Rattle.lent.proofs.CheckSteps as CheckSteps
 use Rattle.lent.proofs.Proper as Proper
 
 pub longest-wins : LongestWins
@@ -16,5 +17,11 @@ winner-is-mount = Proper.winner-is-mount
 pub lent-is-proper : LentIsProper
 lent-is-proper = Proper.lent-is-proper
 
-pub breach-is-twenty : BreachIsTwenty
-breach-is-twenty = Proper.breach-is-twenty
+pub lent-number : LentNumber
+lent-number = CheckSteps.lent-number
+
+pub lent-mounts : LentMounts
+lent-mounts = CheckSteps.lent-mounts
+
+pub places-are-lent : PlacesAreLent
+places-are-lent = CheckSteps.places-are-lent

@@ -1,30 +1,28 @@
--- What is lent can stand in a block: no NUL in a value or a name; and what is refused is 20.
+-- What is lent can stand in a block: no NUL in a value or a name; the mount that wins is one of the mounts.
 -- Assumes nothing.
 use Prim.Native.Nat.{ℕ}
 use Prim.{absurd}
-use mathlib.Core.Path.{_≡_, refl, sym, ap, _∙_}
+use mathlib.Core.Path.{_≡_, refl, ap, _∙_}
 use mathlib.Core.Bool.{Bool, true, false, cond, not}
 use mathlib.Core.List.{List, [], _∷_}
 use mathlib.Core.Option.{Option, none, some}
 use native.Mathlib.Omega.{arith}
-use lib.Dec.{eqb, leb}
+use lib.Dec.{leb}
 use lib.ListN.{length}
-use borrow.Author.Tests.{eqb-true}
 use Rattle.octets.specs.Text.{bytes}
-use Rattle.octets.specs.Outcome.{gives, need, given}
+use Rattle.octets.specs.Outcome.{gives, given}
 use Rattle.octets.specs.Compare.{sameBytes}
 use Rattle.octets.specs.Lists.{All, _&_, NoNul, isNil, different}
-use Rattle.octets.proofs.Bools.{or-false}
 use Rattle.octets.proofs.Outcomes.{need-gives, given-gives, then-gives}
-use Rattle.octets.proofs.Refusals.{Refuses, with-number, not-refused, number-of, refuses-then, refuses-need, refuses-given}
 use Rattle.scgi.specs.Block.{Header, names, headersOf}
 use Rattle.scgi.specs.Grammar.{Proper, Among, here, later}
 use Rattle.scgi.specs.Lookup.{valueIn}
 use Rattle.scgi.proofs.Claims.{headers-proper}
 use Rattle.lent.specs.Settings.{Auth, Settings, filled, orIn, sought, isPort, portIn, authOf, settingsOf}
 use Rattle.lent.specs.Mounts.{fits, longer, mountOf}
-use Rattle.lent.specs.Lent.{Lent, blockOf, allMounts, mountsOf, lentOf}
-use Rattle.lent.specs.Claims.{ProperAuth, neither, both, ProperSettings, LentIsProper, BreachIsTwenty, WinnerIsMount}
+use Rattle.lent.specs.Lent.{Lent, blockOf, mountsOf, lentOf}
+use Rattle.lent.specs.Claims.{ProperAuth, neither, both, ProperSettings, LentIsProper, WinnerIsMount}
+use Rattle.lent.proofs.CheckSteps.{lent-mounts}
 
 gives-once : {A : Type 0} (a b : A) → gives a ≡ gives b → a ≡ b
 gives-once a b e = cc
@@ -37,13 +35,6 @@ block-proper limit block hs e =
     let b = then-gives (given (headersOf block) 20) _ hs (a .1) in
     let c = need-gives (different (names (b .it))) 20 (gives (b .it)) hs (b .next) in
     headers-proper block hs (ap (λ (o : Option (List Header)). given o 5) (given-gives (headersOf block) 20 (b .it) (b .first)) ∙ c .1)
-
-mounts-proper : (block : List ℕ) (ms : List Header) → mountsOf block ≡ gives ms → All Proper ms
-mounts-proper block ms e =
-    let a = then-gives (blockOf 4096 block) _ ms e in
-    let b = need-gives (leb (length (a .it)) 32) 20 (need (allMounts (a .it)) 20 (gives (a .it))) ms (a .next) in
-    let c = need-gives (allMounts (a .it)) 20 (gives (a .it)) ms (b .1) in
-    block-proper 4096 block ms (a .first ∙ c .1)
 
 -- Values.
 
@@ -129,49 +120,8 @@ lent-is-proper facts site mounts l e =
       settings =
           settings-proper (a .it) (b .it) (block-proper 1024 facts (a .it) (a .first)) (block-proper 1024 site (b .it) (b .first)) (l .settings)
           (d .first ∙ ap (λ (x : Lent). gives (x .settings)) z);
-      mounts = mounts-proper mounts (l .mounts) (c .first ∙ ap (λ (x : Lent). gives (x .mounts)) z);
+      mounts = headers-proper mounts (l .mounts) (lent-mounts facts site mounts l e);
     }
-
--- Numbers.
-
-abbrev twenty : List ℕ
-twenty = 20 ∷ []
-
-block-number : (limit : ℕ) (block : List ℕ) → Refuses twenty (blockOf limit block)
-block-number limit block =
-    refuses-need (leb (length block) limit) 20 refl
-    (refuses-then (refuses-given (headersOf block) 20 refl) (λ hs. refuses-need (different (names hs)) 20 refl not-refused))
-
-filled-number : (o : Option (List ℕ)) → Refuses twenty (filled o)
-filled-number o = refuses-then (refuses-given o 20 refl) (λ w. refuses-need (not (isNil w)) 20 refl not-refused)
-
-auth-number : (t u : Option (List ℕ)) → Refuses twenty (authOf t u)
-auth-number none none = not-refused
-auth-number none (some u) = with-number refl
-auth-number (some t) u = refuses-then (filled-number (some t)) (λ a. refuses-then (filled-number u) (λ r. not-refused))
-
-settings-number : (facts site : List Header) → Refuses twenty (settingsOf facts site)
-unfolding settingsOf
-settings-number facts site =
-    refuses-then (filled-number (orIn (valueIn (bytes "SERVER_NAME") facts) (valueIn (bytes "SERVER_NAME") site)))
-    (λ name. refuses-then
-    (refuses-then (filled-number (orIn (valueIn (bytes "SERVER_PORT") facts) (valueIn (bytes "SERVER_PORT") site))) (λ port. refuses-need (isPort port) 20 refl not-refused))
-    (λ port. refuses-then (filled-number (orIn (valueIn (bytes "SERVER_SOFTWARE") facts) (valueIn (bytes "SERVER_SOFTWARE") site)))
-    (λ software. refuses-then (filled-number (valueIn (bytes "REMOTE_ADDR") facts))
-    (λ addr. refuses-then (auth-number (valueIn (bytes "AUTH_TYPE") facts) (valueIn (bytes "REMOTE_USER") facts)) (λ auth. not-refused)))))
-
-pub breach-is-twenty : BreachIsTwenty
-unfolding lentOf
-breach-is-twenty facts site mounts n e =
-    eqb-true n 20
-    (sym (or-false (eqb n 20))
-    ∙ number-of n
-    (refuses-then (block-number 1024 facts)
-    (λ fs. refuses-then (block-number 1024 site)
-    (λ ss. refuses-then
-    (refuses-then (block-number 4096 mounts) (λ ms. refuses-need (leb (length ms) 32) 20 refl (refuses-need (allMounts ms) 20 refl not-refused)))
-    (λ ms. refuses-then (settings-number fs ss) (λ s. not-refused)))))
-    e)
 
 -- The mount that wins.
 

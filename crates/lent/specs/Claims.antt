@@ -6,11 +6,15 @@ use mathlib.Core.List.{List, _++_}
 use mathlib.Core.Option.{Option, none, some}
 use Rattle.octets.specs.Outcome.{refused, gives}
 use Rattle.octets.specs.Lists.{All, NoNul}
-use Rattle.scgi.specs.Block.{Header}
+use Rattle.scgi.specs.Block.{Header, parsed}
 use Rattle.scgi.specs.Grammar.{Proper, Among}
 use Rattle.lent.specs.Settings.{Auth, Settings}
-use Rattle.lent.specs.Mounts.{mountOf, tried, routeOf}
 use Rattle.lent.specs.Lent.{Lent, lentOf}
+use Rattle.lent.specs.Mounts.{mountOf, tried, routeOf}
+use Rattle.lent.specs.Places.{settingsAt}
+use Rattle.lent.specs.Check.{LentFound}
+use Rattle.lent.specs.declared.settings.SettingPlaces.{SettingPlaces}
+use Rattle.lent.specs.declared.check.Checked.the-variants.{Lent as CheckedLent}
 
 -- trying the path, then the path without its last segment, and so on, finds the mount that wins: "the longest mount that fits wins"
 abbrev pub LongestWins : Type 0
@@ -46,5 +50,19 @@ abbrev pub LentIsProper : Type 0
 LentIsProper = (facts site mounts : List ℕ) (l : Lent) → lentOf facts site mounts ≡ gives l → ProperLent l
 
 -- "Any breach of this section is 20"
-abbrev pub BreachIsTwenty : Type 0
-BreachIsTwenty = (facts site mounts : List ℕ) (n : ℕ) → lentOf facts site mounts ≡ refused n → n ≡ 20
+abbrev pub LentNumber : Type 0
+LentNumber = (facts site mounts : List ℕ) (n : ℕ) → lentOf facts site mounts ≡ refused n → n ≡ 20
+
+-- the mounts that are lent are the headers of their block
+abbrev pub LentMounts : Type 0
+LentMounts = (facts site mounts : List ℕ) (l : Lent) → lentOf facts site mounts ≡ gives l → parsed mounts ≡ gives (l .mounts)
+
+-- what is lent, where the code gives places
+pub record Accepted (facts site mounts : List ℕ) (p : SettingPlaces) : Type 0 where
+  pub ms : List Header
+  pub mounts-are : parsed mounts ≡ gives ms
+  pub lent : lentOf facts site mounts ≡ gives (record { settings = settingsAt facts site p; mounts = ms })
+
+abbrev pub PlacesAreLent : Type 0
+PlacesAreLent =
+    (facts site mounts : List ℕ) (p : SettingPlaces) → LentFound facts site mounts (CheckedLent p) → Accepted facts site mounts p

@@ -3,4 +3,5 @@ pub mod Mounts
 pub mod Lent
 pub mod Places
 pub mod Search
+pub mod Check
 pub mod Claims

@@ -1,0 +1,179 @@
+-- Laws of the check of what is lent, step by step, and of its answers.
+-- Assumes nothing.
+use Prim.Native.Nat.{ℕ}
+use Prim.{absurd}
+use mathlib.Core.Path.{_≡_, refl, sym, ap, _∙_}
+use mathlib.Core.Bool.{Bool, true, false, not}
+use mathlib.Core.List.{List}
+use mathlib.Core.Option.{Option, none, some}
+use native.Mathlib.Omega.{arith}
+use lib.Dec.{leb}
+use lib.ListN.{length}
+use Rattle.octets.specs.Text.{bytes}
+use Rattle.octets.specs.Outcome.{Outcome, refused, gives, then, need, given}
+use Rattle.octets.specs.Lists.{isNil, different}
+use Rattle.octets.proofs.Outcomes.{need-gives, given-gives, then-gives}
+use Rattle.scgi.specs.Block.{Header, names, headersOf, parsed, wellFormed}
+use Rattle.scgi.specs.Lookup.{valueIn}
+use Rattle.scgi.specs.Claims.{Headed}
+use Rattle.scgi.proofs.Claims.{well-formed-headed}
+use Rattle.lent.specs.Settings.{filled, orIn, sought, isPort, portIn, authOf, settingsOf}
+use Rattle.lent.specs.Lent.{Lent, blockOf, allMounts, mountsOf, lentOf}
+use Rattle.lent.specs.Places.{settingsAt, SettingsFound}
+use Rattle.lent.specs.Check.{LentFound}
+use Rattle.lent.specs.Claims.{LentNumber, LentMounts, Accepted, PlacesAreLent}
+use Rattle.lent.specs.declared.check.Checked.the-variants.{Lent as CheckedLent, Refused}
+use Rattle.lent.specs.declared.settings.SettingPlaces.{SettingPlaces}
+use Rattle.lent.specs.declared.settings.Settings.the-variants.{At as SettingsAt, Breach as SettingsBreach}
+use Rattle.lent.proofs.BlockSteps.{block-headed, mounts-headed}
+
+module _ (facts site mounts : List ℕ) where
+  pub wrong-facts : refused 20 ≡ blockOf 1024 facts → LentFound facts site mounts (Refused 20)
+  unfolding lentOf
+  wrong-facts e = record { answer = sym (rw (← e)); inside = tt }
+
+  module _ (f : parsed facts ≡ blockOf 1024 facts) where
+    facts-are : Headed facts
+    facts-are = block-headed 1024 facts f
+
+    pub facts-well : wellFormed facts ≡ true
+    facts-well = well-formed-headed facts .1 facts-are
+
+    pub wrong-site : refused 20 ≡ blockOf 1024 site → LentFound facts site mounts (Refused 20)
+    unfolding lentOf
+    wrong-site e = record { answer = sym (rw (sym f ∙ facts-are .is, ← e)); inside = tt }
+
+    module _ (g : parsed site ≡ blockOf 1024 site) where
+      site-is : Headed site
+      site-is = block-headed 1024 site g
+
+      pub site-well : wellFormed site ≡ true
+      site-well = well-formed-headed site .1 site-is
+
+      pub wrong-mounts : refused 20 ≡ mountsOf mounts → LentFound facts site mounts (Refused 20)
+      unfolding lentOf
+      wrong-mounts e = record { answer = sym (rw (sym f ∙ facts-are .is, sym g ∙ site-is .is, ← e)); inside = tt }
+
+      module _ (h : parsed mounts ≡ mountsOf mounts) where
+        mounts-are : Headed mounts
+        mounts-are = mounts-headed mounts h
+
+        -- what is left of the chain
+        left :
+            lentOf facts site mounts
+            ≡ then (settingsOf (facts-are .hs) (site-is .hs)) (λ s. gives (record { settings = s; mounts = mounts-are .hs }))
+        unfolding lentOf
+        left = rw (sym f ∙ facts-are .is, sym g ∙ site-is .is, sym h ∙ mounts-are .is)
+
+        pub wrong-settings : SettingsFound facts site SettingsBreach → LentFound facts site mounts (Refused 20)
+        wrong-settings s =
+            let e : refused 20 ≡ settingsOf (facts-are .hs) (site-is .hs) = rw (facts-are .is, site-is .is) at (s .answer) in
+            record { answer = sym (left ∙ rw (← e)); inside = tt }
+
+        pub all-lent : (p : SettingPlaces) → SettingsFound facts site (SettingsAt p) → LentFound facts site mounts (CheckedLent p)
+        all-lent p s =
+            let e : gives (settingsAt facts site p) ≡ settingsOf (facts-are .hs) (site-is .hs) = rw (facts-are .is, site-is .is) at (s .answer) in
+            record { answer = rw (mounts-are .is) (sym (left ∙ rw (← e))); inside = s .inside }
+
+-- Of the answers.
+
+-- a chain that refuses with 20 alone
+abbrev Only20 : {A : Type 0} → Outcome A → Type 0
+Only20 o = (n : ℕ) → o ≡ refused n → n ≡ 20
+
+only-gives : {A : Type 0} (a : A) → Only20 (gives a)
+only-gives a n e = cc
+
+only-refused : {A : Type 0} → Only20 {A = A} (refused 20)
+only-refused n e = cc
+
+only-need : {A : Type 0} (t : Bool) (o : Outcome A) → Only20 o → Only20 (need t 20 o)
+only-need true o h n e = h n e
+only-need false o h n e = cc
+
+only-given : {A : Type 0} (o : Option A) → Only20 (given o 20)
+only-given none n e = cc
+only-given (some a) n e = cc
+
+only-then : {A B : Type 0} (o : Outcome A) (f : A → Outcome B) → Only20 o → ((a : A) → Only20 (f a)) → Only20 (then o f)
+only-then (refused k) f h g n e =
+    let z : k ≡ n = cc in
+    rw (← z) (h k refl)
+only-then (gives a) f h g n e = g a n e
+
+only-block : (limit : ℕ) (b : List ℕ) → Only20 (blockOf limit b)
+only-block limit b =
+    only-need (leb (length b) limit) _
+    (only-then (given (headersOf b) 20) _ (only-given (headersOf b)) (λ hs. only-need (different (names hs)) (gives hs) (only-gives hs)))
+
+only-mounts : (b : List ℕ) → Only20 (mountsOf b)
+only-mounts b =
+    only-then (blockOf 4096 b) _ (only-block 4096 b)
+    (λ ms. only-need (leb (length ms) 32) _ (only-need (allMounts ms) (gives ms) (only-gives ms)))
+
+only-filled : (v : Option (List ℕ)) → Only20 (filled v)
+only-filled v = only-then (given v 20) _ (only-given v) (λ w. only-need (not (isNil w)) (gives w) (only-gives w))
+
+only-sought : (name : List ℕ) (fs ss : List Header) → Only20 (sought name fs ss)
+only-sought name fs ss = only-filled (orIn (valueIn name fs) (valueIn name ss))
+
+only-auth : (t u : Option (List ℕ)) → Only20 (authOf t u)
+only-auth none none = only-gives none
+only-auth none (some u) = only-refused
+only-auth (some t) u = only-then (filled (some t)) _ (only-filled (some t)) (λ a. only-then (filled u) _ (only-filled u) (λ r. only-gives _))
+
+only-settings : (fs ss : List Header) → Only20 (settingsOf fs ss)
+unfolding settingsOf
+only-settings fs ss =
+    only-then (sought (bytes "SERVER_NAME") fs ss) _ (only-sought (bytes "SERVER_NAME") fs ss) (λ name.
+    only-then (portIn fs ss) _
+    (only-then (sought (bytes "SERVER_PORT") fs ss) _ (only-sought (bytes "SERVER_PORT") fs ss) (λ port. only-need (isPort port) (gives port) (only-gives port))) (λ port.
+    only-then (sought (bytes "SERVER_SOFTWARE") fs ss) _ (only-sought (bytes "SERVER_SOFTWARE") fs ss) (λ software.
+    only-then (filled (valueIn (bytes "REMOTE_ADDR") fs)) _ (only-filled (valueIn (bytes "REMOTE_ADDR") fs)) (λ addr.
+    only-then (authOf (valueIn (bytes "AUTH_TYPE") fs) (valueIn (bytes "REMOTE_USER") fs)) _ (only-auth (valueIn (bytes "AUTH_TYPE") fs) (valueIn (bytes "REMOTE_USER") fs)) (λ auth. only-gives _)))))
+
+pub lent-number : LentNumber
+unfolding lentOf
+lent-number facts site mounts =
+    only-then (blockOf 1024 facts) _ (only-block 1024 facts) (λ fs.
+    only-then (blockOf 1024 site) _ (only-block 1024 site) (λ ss.
+    only-then (mountsOf mounts) _ (only-mounts mounts) (λ ms.
+    only-then (settingsOf fs ss) _ (only-settings fs ss) (λ s. only-gives _))))
+
+-- the headers of a block that is accepted
+block-gives : (limit : ℕ) (b : List ℕ) (hs : List Header) → blockOf limit b ≡ gives hs → parsed b ≡ gives hs
+block-gives limit b hs e =
+    let n = need-gives (leb (length b) limit) 20 _ hs e in
+    let g = then-gives (given (headersOf b) 20) _ hs (n .1) in
+    let d = need-gives (different (names (g .it))) 20 (gives (g .it)) hs (g .next) in
+    let q : gives (g .it) ≡ gives hs = d .1 in
+    let z : g .it ≡ hs = cc in
+    rw (given-gives (headersOf b) 20 (g .it) (g .first)) (ap gives z)
+
+pub lent-mounts : LentMounts
+unfolding lentOf
+lent-mounts facts site mounts l e =
+    let f = then-gives (blockOf 1024 facts) _ l e in
+    let s = then-gives (blockOf 1024 site) _ l (f .next) in
+    let m = then-gives (mountsOf mounts) _ l (s .next) in
+    let t = then-gives (settingsOf (f .it) (s .it)) (λ x. gives (record { settings = x; mounts = m .it })) l (m .next) in
+    let q : gives (record { settings = t .it; mounts = m .it }) ≡ gives l = t .next in
+    let r : _≡_ {A = Lent} (record { settings = t .it; mounts = m .it }) l = cc in
+    let b = then-gives (blockOf 4096 mounts) _ (m .it) (m .first) in
+    let c = need-gives (leb (length (b .it)) 32) 20 _ (m .it) (b .next) in
+    let d = need-gives (allMounts (b .it)) 20 (gives (b .it)) (m .it) (c .1) in
+    let y : gives (b .it) ≡ gives (m .it) = d .1 in
+    block-gives 4096 mounts (b .it) (b .first) ∙ y ∙ ap (λ (x : Lent). gives (x .mounts)) r
+
+pub places-are-lent : PlacesAreLent
+places-are-lent facts site mounts p f = by (parsed mounts) refl (f .answer)
+  where
+    five : (o : Option (List Header)) (n : ℕ) → given o 5 ≡ refused n → n ≡ 5
+    five none n e = cc
+    five (some hs) n e = cc
+
+    by :
+        (o : Outcome (List Header)) → parsed mounts ≡ o
+        → then o (λ ms. gives (record { settings = settingsAt facts site p; mounts = ms })) ≡ lentOf facts site mounts → Accepted facts site mounts p
+    by (refused n) q e = absurd (omega (arith, lent-number facts site mounts n (sym e), five (headersOf mounts) n q))
+    by (gives ms) q e = record { ms = ms; mounts-are = q; lent = sym e }

@@ -1,0 +1,30 @@
+-- Each claim of specs/Claims.antt, proved. Crates above cite this file and no other of this folder.
+-- Assumes nothing.
+use Rattle.response.specs.Claims.{TableHolds, NumbersHold, StatusHolds, DocumentIs200, ServedIsTarget, LocationStands, PlacesWithin}
+use Rattle.response.proofs.Answers as Answers
+
+pub table-holds : TableHolds
+table-holds =
+    record { exclude = Answers.exclude; row-fits = λ x a e. Answers.in-row x a e .fits; else-25 = Answers.no-row }
+
+pub numbers-hold : NumbersHold
+numbers-hold = Answers.numbers
+
+pub status-holds : StatusHolds
+status-holds =
+    record {
+      fits = λ s a e. Answers.status-fits s a (Answers.answered s a e);
+      range = λ s a e. Answers.fits-range (a .action) (a .status) (Answers.status-fits s a (Answers.answered s a e));
+    }
+
+pub document-is-200 : DocumentIs200
+document-is-200 s h a p q e act = Answers.no-status s h a p q (Answers.answered s a e) act
+
+pub served-is-target : ServedIsTarget
+served-is-target s a e act = Answers.served s a (Answers.answered s a e) act
+
+pub location-stands : LocationStands
+location-stands s h v a p q e = Answers.location-stands s h v a p q (Answers.answered s a e)
+
+pub places-within : PlacesWithin
+places-within s a e = Answers.places s a (Answers.answered s a e)

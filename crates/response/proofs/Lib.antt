@@ -1,0 +1,13 @@
+pub mod LineEnds
+pub mod FieldPlaces
+pub mod Heads
+pub mod Lies
+pub mod Marks
+pub mod Seens
+pub mod Statuses
+pub mod Locations
+pub mod Tables
+pub mod RespondSteps
+pub mod Worked
+pub mod Answers
+pub mod Claims
