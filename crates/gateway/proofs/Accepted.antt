@@ -3,21 +3,20 @@
 use Prim.Native.Nat.{ℕ, _-_, _≤_}
 use mathlib.Core.Path.{_≡_, refl}
 use mathlib.Core.List.{List}
-use mathlib.Core.Option.{some}
 use native.Mathlib.Omega.{arith}
 use lib.Dec.{ltb}
 use lib.ListN.{length, take, length-take}
 use Rattle.octets.specs.Text.{bytes}
-use Rattle.octets.specs.Outcome.{Outcome, gives, then, given}
+use Rattle.octets.specs.Outcome.{Outcome, gives, then}
 use Rattle.octets.specs.Kinds.{isName, isValue}
 use Rattle.octets.specs.Scan.{allOf}
 use Rattle.octets.specs.Decimal.{plain}
-use Rattle.octets.specs.Lists.{All, NoNul}
+use Rattle.octets.specs.Lists.{All, _&_, NoNul}
 use Rattle.octets.proofs.Bools.{and-right}
 use Rattle.octets.proofs.Alls.{all-implies, all-each, all-without, all-after}
 use Rattle.octets.proofs.Names.{test-different}
 use Rattle.scgi.specs.Block.{Header, names}
-use Rattle.scgi.specs.Grammar.{first, here, later, IsRequest}
+use Rattle.scgi.specs.Grammar.{first, Among, here, later, IsRequest}
 use Rattle.http.specs.Lines.{linesOf}
 use Rattle.http.specs.Fields.{Field}
 use Rattle.http.specs.Target.{targetOf, queryOf}
@@ -25,11 +24,13 @@ use Rattle.http.proofs.Requests.{Reads, line-read, method-no-nul, served-no-nul
 use Rattle.http.proofs.TargetsAccepted.{Accepted, accepted, target-no-nul, query-no-nul, path-no-nul}
 use Rattle.http.proofs.FieldLines.{Clean, fields-clean}
 use Rattle.http.proofs.Places.{fields-few}
-use Rattle.lent.specs.Mounts.{Route}
+use Rattle.lent.specs.Mounts.{Route, mountFor, routeOf}
+use Rattle.lent.specs.Lent.{Lent}
+use Rattle.lent.specs.Claims.{ProperLent}
+use Rattle.lent.proofs.Claims.{winner-is-mount}
 use Rattle.gateway.specs.Meaning.{Meaning, meaningOf}
 use Rattle.gateway.specs.Variables.{fixed, variables, bytesOf}
-use Rattle.gateway.specs.Step.{Known, routeOf, Forward, meaningAt, forwardOf}
-use Rattle.gateway.specs.Claims.{ProperSettings}
+use Rattle.gateway.specs.Step.{Forward, meaningAt, forwardOf}
 use Rattle.gateway.proofs.Proper.{ProperField, ProperMeaning, ProperRoute}
 use Rattle.gateway.proofs.Variables.{variables-proper}
 use Rattle.gateway.proofs.Names.{names-differ, variable-count}
@@ -46,11 +47,11 @@ field-proper f c =
     }
 
 -- the route of a target is settled by the mounts
-abbrev pub routeFor : Known → List ℕ → Outcome Route
-routeFor k t = then (targetOf t) (λ x. then (given (k .mount (x .path)) 19) (λ m. gives (routeOf m (x .path))))
+abbrev pub routeFor : Lent → List ℕ → Outcome Route
+routeFor k t = then (targetOf t) (λ x. then (mountFor (k .mounts) (x .path)) (λ m. gives (routeOf m (x .path))))
 
 -- what holds of the bytes w that are written for an accepted request
-pub record Account (k : Known) (http w : List ℕ) : Type 0 where
+pub record Account (k : Lent) (http w : List ℕ) : Type 0 where
   pub meaning : Meaning
   pub route : Route
   pub means : meaningAt http ≡ gives meaning
@@ -59,92 +60,92 @@ pub record Account (k : Known) (http w : List ℕ) : Type 0 where
   pub request : IsRequest (variables (k .settings) route meaning) (meaning .body)
   pub bytes : w ≡ bytesOf (k .settings) route meaning
 
-module _
-    (k : Known) (settings : ProperSettings (k .settings)) (mounts : (path : List ℕ) (m : Header) → k .mount path ≡ some m → NoNul (m .name))
-    (http : List ℕ) (f : Forward) (l : Links k http f)
-  where
-    abbrev meaning : Meaning
-    meaning = meaningOf (l .q .first) (l .q .fields) (l .b .body)
+-- one of a list has what each has
+one-of : {P : Header → Type 0} {m : Header} {ms : List Header} → Among m ms → All P ms → P m
+one-of here (p & ps) = p
+one-of (later a) (p & ps) = one-of a ps
 
-    abbrev route : Route
-    route = routeOf (l .m) (l .q .path)
+module _ (k : Lent) (sound : ProperLent k) (http : List ℕ) (f : Forward) (l : Links k http f) where
+  abbrev meaning : Meaning
+  meaning = meaningOf (l .q .first) (l .q .fields) (l .b .body)
 
-    r : RequestLinks (take (l .h - 4) http) (l .q)
-    r = request-links (take (l .h - 4) http) (l .q) (l .request)
+  abbrev route : Route
+  route = routeOf (l .m) (l .q .path)
 
-    body-is : BodyLinks http (l .h) (l .q .bodyLength) (l .b)
-    body-is = body-links http (l .h) (l .q .bodyLength) (l .b) (l .body)
+  r : RequestLinks (take (l .h - 4) http) (l .q)
+  r = request-links (take (l .h - 4) http) (l .q) (l .request)
 
-    line : Reads (linesOf (take (l .h - 4) http) .first) (l .q .first)
-    line = line-read _ (l .q .first) (r .line-read)
+  body-is : BodyLinks http (l .h) (l .q .bodyLength) (l .b)
+  body-is = body-links http (l .h) (l .q .bodyLength) (l .b) (l .body)
 
-    target : Accepted (l .q .first .target) (r .target)
-    target = accepted (l .q .first .target) (r .target) (r .target-read)
+  line : Reads (linesOf (take (l .h - 4) http) .first) (l .q .first)
+  line = line-read _ (l .q .first) (r .line-read)
 
-    fields : All (ProperField isName) (l .q .fields)
-    fields = all-implies field-proper (fields-clean isName (linesOf (take (l .h - 4) http) .others) (l .q .fields) (r .fields-read))
+  target : Accepted (l .q .first .target) (r .target)
+  target = accepted (l .q .first .target) (r .target) (r .target-read)
 
-    group : Grouped (l .q .fields) (meaning .fields)
-    group = grouped-once (l .q .fields) fields
+  fields : All (ProperField isName) (l .q .fields)
+  fields = all-implies field-proper (fields-clean isName (linesOf (take (l .h - 4) http) .others) (l .q .fields) (r .fields-read))
 
-    proper : ProperMeaning meaning
-    proper =
-        record {
-          method = method-no-nul (l .q .first .method) (line .method);
-          target = target-no-nul (l .q .first .target) (r .target) target;
-          version = served-no-nul (l .q .first .version) (line .served);
-          contentType = value-bytes-of (bytes "content-type") (l .q .fields) fields;
-          fields = group .proper;
-        }
+  group : Grouped (l .q .fields) (meaning .fields)
+  group = grouped-once (l .q .fields) fields
 
-    path-bytes : NoNul (l .q .path)
-    path-bytes = rw (r .path) (path-no-nul (l .q .first .target) (r .target) target)
+  proper : ProperMeaning meaning
+  proper =
+      record {
+        method = method-no-nul (l .q .first .method) (line .method);
+        target = target-no-nul (l .q .first .target) (r .target) target;
+        version = served-no-nul (l .q .first .version) (line .served);
+        contentType = value-bytes-of (bytes "content-type") (l .q .fields) fields;
+        fields = group .proper;
+      }
 
-    route-proper : ProperRoute route
-    route-proper = record { scriptName = mounts (l .q .path) (l .m) (l .mount); pathInfo = all-after (length (l .m .name)) (l .q .path) path-bytes }
+  path-bytes : NoNul (l .q .path)
+  path-bytes = rw (r .path) (path-no-nul (l .q .first .target) (r .target) target)
 
-    query : NoNul (queryOf (meaning .target))
-    query = rw (← target .query-is) (query-no-nul (l .q .first .target) (r .target) target)
+  route-proper : ProperRoute route
+  route-proper = record { scriptName = one-of (winner-is-mount (k .mounts) (l .q .path) (l .m) (l .mount)) (sound .mounts) .name-bytes; pathInfo = all-after (length (l .m .name)) (l .q .path) path-bytes }
 
-    means : meaningAt http ≡ gives meaning
-    unfolding meaningAt
-    means = rw (l .head, l .request, l .body)
+  query : NoNul (queryOf (meaning .target))
+  query = rw (← target .query-is) (query-no-nul (l .q .first .target) (r .target) target)
 
-    routed : routeFor k (meaning .target) ≡ gives route
-    routed = rw (r .target-read, ← r .path, l .mount)
+  means : meaningAt http ≡ gives meaning
+  unfolding meaningAt
+  means = rw (l .head, l .request, l .body)
 
-    body-limit : length (meaning .body) ≤ 1048576
-    body-limit = rw (body-is .is) (simp length-take (omega (arith, body-is .limit)))
+  routed : routeFor k (meaning .target) ≡ gives route
+  routed = rw (r .target-read, ← r .path, l .mount)
 
-    count : length (variables (k .settings) route meaning) ≤ 128
-    count = omega (arith, variable-count (k .settings) route meaning, group .count, fields-few isName (linesOf (take (l .h - 4) http) .others) (l .q .fields) (r .fields-read))
+  body-limit : length (meaning .body) ≤ 1048576
+  body-limit = rw (body-is .is) (simp length-take (omega (arith, body-is .limit)))
 
-    request : IsRequest (variables (k .settings) route meaning) (meaning .body)
-    unfolding fixed
-    request =
-        record {
-          proper = variables-proper (k .settings) route meaning settings route-proper proper query;
-          differ = test-different (names (variables (k .settings) route meaning)) (names-differ (k .settings) route meaning (group .proper) (group .names));
-          states = first refl plain;
-          scgi = later here;
-          block-limit = l .written .limit;
-          header-limit = count;
-          body-limit = body-limit;
-        }
+  count : length (variables (k .settings) route meaning) ≤ 128
+  count = omega (arith, variable-count (k .settings) route meaning, group .count, fields-few isName (linesOf (take (l .h - 4) http) .others) (l .q .fields) (r .fields-read))
 
-    pub account-at : Account k http (f .scgi)
-    account-at =
-        record {
-          meaning = meaning;
-          route = route;
-          means = means;
-          routed = routed;
-          proper = proper;
-          request = request;
-          bytes = l .written .scgi;
-        }
+  request : IsRequest (variables (k .settings) route meaning) (meaning .body)
+  unfolding fixed
+  request =
+      record {
+        proper = variables-proper (k .settings) route meaning (sound .settings) route-proper proper query;
+        differ = test-different (names (variables (k .settings) route meaning)) (names-differ (k .settings) route meaning (group .proper) (group .names));
+        states = first refl plain;
+        scgi = later here;
+        block-limit = l .written .limit;
+        header-limit = count;
+        body-limit = body-limit;
+      }
 
-pub account :
-    (k : Known) → ProperSettings (k .settings) → ((path : List ℕ) (m : Header) → k .mount path ≡ some m → NoNul (m .name))
-    → (http : List ℕ) (f : Forward) → forwardOf (gives k) http ≡ gives f → Account k http (f .scgi)
-account k settings mounts http f e = account-at k settings mounts http f (links k http f e)
+  pub account-at : Account k http (f .scgi)
+  account-at =
+      record {
+        meaning = meaning;
+        route = route;
+        means = means;
+        routed = routed;
+        proper = proper;
+        request = request;
+        bytes = l .written .scgi;
+      }
+
+pub account : (k : Lent) → ProperLent k → (http : List ℕ) (f : Forward) → forwardOf (gives k) http ≡ gives f → Account k http (f .scgi)
+account k sound http f e = account-at k sound http f (links k http f e)

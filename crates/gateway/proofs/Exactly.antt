@@ -10,15 +10,17 @@ use Rattle.scgi.specs.Block.{printed}
 use Rattle.scgi.specs.Write.{writeOf}
 use Rattle.scgi.proofs.Claims.{request-once, writes-exactly, write-then-read}
 use Rattle.lent.specs.Mounts.{Route}
+use Rattle.lent.specs.Lent.{Lent, lentOf}
+use Rattle.lent.proofs.Claims.{lent-is-proper}
 use Rattle.gateway.specs.Meaning.{Meaning}
 use Rattle.gateway.specs.Variables.{variables, bytesOf}
-use Rattle.gateway.specs.Step.{Known, meaningAt, forwardOf}
+use Rattle.gateway.specs.Step.{meaningAt, forwardOf}
 use Rattle.gateway.specs.Claims.{BytesExactlyMeaning, WrittenIsAccepted}
 use Rattle.gateway.proofs.Variables.{variables-once}
 use Rattle.gateway.proofs.Links.{lent-of, without-room}
 use Rattle.gateway.proofs.Accepted.{routeFor, Account, account}
 
-module _ (k : Known) (http http′ w w′ : List ℕ) (a : Account k http w) (b : Account k http′ w′) where
+module _ (k : Lent) (http http′ w w′ : List ℕ) (a : Account k http w) (b : Account k http′ w′) where
   bytes-mean : w ≡ w′ → meaningAt http ≡ meaningAt http′
   bytes-mean e =
       let hs = variables (k .settings) (a .route) (a .meaning) in
@@ -36,30 +38,32 @@ module _ (k : Known) (http http′ w w′ : List ℕ) (a : Account k http w) (b 
       a .bytes ∙ ap (λ (x : Route). bytesOf (k .settings) x (a .meaning)) r ∙ ap (bytesOf (k .settings) (b .route)) m ∙ sym (b .bytes)
 
 pub bytes-exactly-meaning : BytesExactlyMeaning
-bytes-exactly-meaning lent sound http http′ room room′ f f′ e e′ =
+bytes-exactly-meaning facts site mounts http http′ room room′ f f′ e e′ =
+    let lent = lentOf facts site mounts in
     let g = without-room lent http room f e in
     let g′ = without-room lent http′ room′ f′ e′ in
     let z = lent-of lent http f g in
-    let k : Known = z .k in
+    let k : Lent = z .k in
     let d : forwardOf (gives k) http ≡ gives f = rw (z .is) at g in
     let d′ : forwardOf (gives k) http′ ≡ gives f′ = rw (z .is) at g′ in
-    let a = account k (sound .settings k (z .is)) (λ path m q. sound .mounts k path m (z .is) q) http f d in
-    let b = account k (sound .settings k (z .is)) (λ path m q. sound .mounts k path m (z .is) q) http′ f′ d′ in
+    let a = account k (lent-is-proper facts site mounts k (z .is)) http f d in
+    let b = account k (lent-is-proper facts site mounts k (z .is)) http′ f′ d′ in
     (bytes-mean k http http′ (f .scgi) (f′ .scgi) a b, meaning-bytes k http http′ (f .scgi) (f′ .scgi) a b)
 
 pub written-is-accepted : WrittenIsAccepted
-written-is-accepted lent sound http rest room f e =
+written-is-accepted facts site mounts http rest room f e =
+    let lent = lentOf facts site mounts in
     let g = without-room lent http room f e in
     let z = lent-of lent http f g in
-    let k : Known = z .k in
+    let k : Lent = z .k in
     let d : forwardOf (gives k) http ≡ gives f = rw (z .is) at g in
-    let a = account k (sound .settings k (z .is)) (λ path m q. sound .mounts k path m (z .is) q) http f d in
+    let a = account k (lent-is-proper facts site mounts k (z .is)) http f d in
     let hs = variables (k .settings) (a .route) (a .meaning) in
     let w : writeOf (printed hs) (a .meaning .body) (length (f .scgi)) ≡ gives (f .scgi) =
     writes-exactly (printed hs) (a .meaning .body) (length (f .scgi)) (f .scgi) .1
     (record { hs = hs; block-is = refl; request = a .request; bytes = a .bytes; fits = le-refl (length (f .scgi)) }) in
     record {
-      known = k;
+      lent = k;
       route = a .route;
       meaning = a .meaning;
       is-lent = z .is;

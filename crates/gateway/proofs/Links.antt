@@ -7,7 +7,7 @@ use mathlib.Core.Option.{some}
 use lib.Dec.{leb}
 use lib.ListN.{length, take, drop}
 use borrow.Author.Tests.{leb-true}
-use Rattle.octets.specs.Outcome.{Outcome, gives, need, given}
+use Rattle.octets.specs.Outcome.{Outcome, gives, need}
 use Rattle.octets.specs.Kinds.{isName}
 use Rattle.octets.proofs.Outcomes.{need-gives, given-gives, then-gives}
 use Rattle.scgi.specs.Block.{Header, printed}
@@ -17,11 +17,12 @@ use Rattle.http.specs.RequestLine.{FirstLine, requestLineOf}
 use Rattle.http.specs.Target.{Target, targetOf}
 use Rattle.http.specs.Fields.{Field, fieldsOf}
 use Rattle.lent.specs.Settings.{Settings}
-use Rattle.lent.specs.Mounts.{Route}
+use Rattle.lent.specs.Mounts.{Route, mountOf, mountFor, routeOf}
+use Rattle.lent.specs.Lent.{Lent}
 use Rattle.gateway.specs.Fields.{lowered}
 use Rattle.gateway.specs.Meaning.{Meaning, meaningOf}
 use Rattle.gateway.specs.Variables.{variables, bytesOf}
-use Rattle.gateway.specs.Step.{rulesOf, Request, requestOf, Body, bodyOf, Known, routeOf, poolOf, Forward, writtenFor, forwardOf, stepWith}
+use Rattle.gateway.specs.Step.{rulesOf, Request, requestOf, Body, bodyOf, poolOf, Forward, writtenFor, forwardOf, stepWith}
 
 gives-once : {A : Type 0} (a b : A) → gives a ≡ gives b → a ≡ b
 gives-once a b e = cc
@@ -76,24 +77,24 @@ written-links s r m pool used f e =
     record { limit = leb-true _ 16384 (c .0); scgi = ap (λ (x : Forward). x .scgi) (sym z); used-is = ap (λ (x : Forward). x .used) (sym z) }
 
 -- of the chain, where k is what is lent
-pub record Links (k : Known) (http : List ℕ) (f : Forward) : Type 0 where
+pub record Links (k : Lent) (http : List ℕ) (f : Forward) : Type 0 where
   pub h : ℕ
   pub q : Request
   pub m : Header
   pub b : Body
   pub head : headOf http ≡ gives h
   pub request : requestOf (take (h - 4) http) ≡ gives q
-  pub mount : k .mount (q .path) ≡ some m
+  pub mount : mountOf (k .mounts) (q .path) ≡ some m
   pub body : bodyOf http h (q .bodyLength) ≡ gives b
   pub written : WrittenLinks (k .settings) (routeOf m (q .path)) (meaningOf (q .first) (q .fields) (b .body)) (b .used) f
 
-pub links : (k : Known) (http : List ℕ) (f : Forward) → forwardOf (gives k) http ≡ gives f → Links k http f
+pub links : (k : Lent) (http : List ℕ) (f : Forward) → forwardOf (gives k) http ≡ gives f → Links k http f
 unfolding forwardOf
 links k http f e =
     let c = then-gives (headOf http) _ f e in
     let d = then-gives (requestOf (take (c .it - 4) http)) _ f (c .next) in
     let q : Request = d .it in
-    let g = then-gives (given (k .mount (q .path)) 19) _ f (d .next) in
+    let g = then-gives (mountFor (k .mounts) (q .path)) _ f (d .next) in
     let i = then-gives (bodyOf http (c .it) (q .bodyLength)) _ f (g .next) in
     record {
       h = c .it;
@@ -102,25 +103,25 @@ links k http f e =
       b = i .it;
       head = c .first;
       request = d .first;
-      mount = given-gives (k .mount (q .path)) 19 (g .it) (g .first);
+      mount = given-gives (mountOf (k .mounts) (q .path)) 19 (g .it) (g .first);
       body = i .first;
       written =
           written-links (k .settings) (routeOf (g .it) (q .path)) (meaningOf (q .first) (q .fields) (i .it .body)) (poolOf (g .it)) (i .it .used) f (i .next);
     }
 
 -- what is lent where a request is accepted
-pub record Lent (lent : Outcome Known) : Type 0 where
-  pub k : Known
+pub record Lending (lent : Outcome Lent) : Type 0 where
+  pub k : Lent
   pub is : lent ≡ gives k
 
-pub lent-of : (lent : Outcome Known) (http : List ℕ) (f : Forward) → forwardOf lent http ≡ gives f → Lent lent
+pub lent-of : (lent : Outcome Lent) (http : List ℕ) (f : Forward) → forwardOf lent http ≡ gives f → Lending lent
 unfolding forwardOf
 lent-of lent http f e =
     let a = then-gives lent _ f e in
     record { k = a .it; is = a .first }
 
 -- 21 depends on the room alone
-pub without-room : (lent : Outcome Known) (http : List ℕ) (room : ℕ) (f : Forward) → stepWith lent http room ≡ gives f → forwardOf lent http ≡ gives f
+pub without-room : (lent : Outcome Lent) (http : List ℕ) (room : ℕ) (f : Forward) → stepWith lent http room ≡ gives f → forwardOf lent http ≡ gives f
 unfolding stepWith
 without-room lent http room f e =
     let a = then-gives (forwardOf lent http) (λ g. need (leb (length (g .scgi)) room) 21 (gives g)) f e in

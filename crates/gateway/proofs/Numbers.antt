@@ -1,7 +1,7 @@
 -- Which numbers the step can give.
 -- Assumes nothing.
 use Prim.Native.Nat.{ℕ, _+_, _-_}
-use mathlib.Core.Path.{refl, ap}
+use mathlib.Core.Path.{_≡_, refl, ap}
 use mathlib.Core.List.{List, [], _∷_}
 use lib.Dec.{eqb, leb}
 use lib.ListN.{length, take}
@@ -15,7 +15,9 @@ use Rattle.http.specs.Lines.{linesOf}
 use Rattle.http.specs.Fields.{Field}
 use Rattle.http.proofs.Numbers.{head-numbers, line-numbers, target-numbers, field-numbers}
 use Rattle.lent.specs.Settings.{Settings}
-use Rattle.lent.specs.Mounts.{Route}
+use Rattle.lent.specs.Mounts.{Route, mountOf, routeOf}
+use Rattle.lent.specs.Lent.{Lent, lentOf}
+use Rattle.lent.proofs.Claims.{lent-number}
 use Rattle.gateway.specs.Fields.{lowered, valuesOf}
 use Rattle.gateway.specs.Meaning.{Meaning, meaningOf}
 use Rattle.gateway.specs.Variables.{variables}
@@ -26,14 +28,12 @@ use Rattle.gateway.specs.Step.{
   rulesOf,
   requestOf,
   bodyOf,
-  Known,
-  routeOf,
   poolOf,
   writtenFor,
   forwardOf,
   stepWith,
 }
-use Rattle.gateway.specs.Claims.{Sound, stepNumbers, NumbersHold}
+use Rattle.gateway.specs.Claims.{stepNumbers, NumbersHold}
 
 stated-numbers : (vs : List (List ℕ)) → Refuses stepNumbers (statedBy vs)
 stated-numbers [] = not-refused
@@ -69,21 +69,27 @@ written-numbers : (s : Settings) (r : Route) (m : Meaning) (pool : List ℕ) (us
 unfolding writtenFor
 written-numbers s r m pool used = refuses-need (leb (length (printed (variables s r m))) 16384) 22 refl not-refused
 
-lent-numbers : (lent : Outcome Known) → Sound lent → Refuses stepNumbers lent
-lent-numbers (gives k) sound = not-refused
-lent-numbers (refused n) sound = with-number (ap (oneOf stepNumbers) (sound .number n refl))
+lent-numbers : (facts site mounts : List ℕ) → Refuses stepNumbers (lentOf facts site mounts)
+lent-numbers facts site mounts = by (lentOf facts site mounts) refl
+  where
+    by : (o : Outcome Lent) → lentOf facts site mounts ≡ o → Refuses stepNumbers o
+    by (gives l) e = not-refused
+    by (refused n) e = with-number (ap (oneOf stepNumbers) (lent-number facts site mounts n e))
 
-forward-numbers : (lent : Outcome Known) → Sound lent → (http : List ℕ) → Refuses stepNumbers (forwardOf lent http)
+forward-numbers : (lent : Outcome Lent) → Refuses stepNumbers lent → (http : List ℕ) → Refuses stepNumbers (forwardOf lent http)
 unfolding forwardOf
-forward-numbers lent sound http =
-    refuses-then (lent-numbers lent sound)
+forward-numbers lent number http =
+    refuses-then number
     (λ k. refuses-then (head-numbers refl refl http)
     (λ h. refuses-then (request-numbers (take (h - 4) http))
-    (λ q. refuses-then (refuses-given (k .mount (q .path)) 19 refl)
+    (λ q. refuses-then (refuses-given (mountOf (k .mounts) (q .path)) 19 refl)
     (λ m. refuses-then (body-numbers http h (q .bodyLength))
     (λ b. written-numbers (k .settings) (routeOf m (q .path)) (meaningOf (q .first) (q .fields) (b .body)) (poolOf m) (b .used))))))
 
 pub numbers-hold : NumbersHold
 unfolding stepWith
-numbers-hold lent sound http room n e =
-    number-of n (refuses-then (forward-numbers lent sound http) (λ f. refuses-need (leb (length (f .scgi)) room) 21 refl not-refused)) e
+numbers-hold facts site mounts http room n e =
+    number-of n
+    (refuses-then (forward-numbers (lentOf facts site mounts) (lent-numbers facts site mounts) http)
+    (λ f. refuses-need (leb (length (f .scgi)) room) 21 refl not-refused))
+    e

@@ -8,14 +8,16 @@ use lib.Dec.{leb}
 use lib.ListN.{length, take}
 use lib.Seq.{take-append-le}
 use borrow.Author.Tests.{leb-true}
-use Rattle.octets.specs.Outcome.{Outcome, refused, gives, given}
+use Rattle.octets.specs.Outcome.{Outcome, refused, gives}
 use Rattle.octets.proofs.Lists.{part-more}
 use Rattle.framing.proofs.Keeps.{Keeps, same, keeps-then, keeps-cond, keeps-end, keeps-unless, kept, Steady, steady-frames, still-leb}
 use Rattle.framing.proofs.Spools.{spools-equal, spool-cut}
 use Rattle.framing.proofs.SpoolSteps.{spool-goes-on}
 use Rattle.http.specs.Head.{headOf}
 use Rattle.http.proofs.Heads.{head-keeps, head-within}
-use Rattle.gateway.specs.Step.{requestOf, Body, bodyOf, Known, Forward, forwardOf, usedBy}
+use Rattle.lent.specs.Mounts.{mountFor}
+use Rattle.lent.specs.Lent.{Lent, lentOf}
+use Rattle.gateway.specs.Step.{requestOf, Body, bodyOf, Forward, forwardOf, usedBy}
 use Rattle.gateway.specs.Claims.{PipelinesFrame}
 use Rattle.gateway.proofs.Links.{body-links, links, lent-of}
 
@@ -31,7 +33,7 @@ keeps-body s t h n =
     same
 
 -- the chain after what is lent
-after-lent : (k : Known) (s t : List ℕ) → Keeps (forwardOf (gives k) s) (forwardOf (gives k) (s ++ t))
+after-lent : (k : Lent) (s t : List ℕ) → Keeps (forwardOf (gives k) s) (forwardOf (gives k) (s ++ t))
 unfolding forwardOf
 after-lent k s t =
     keeps-then (keeps-head s t)
@@ -39,15 +41,15 @@ after-lent k s t =
     let w = head-within s h e in
     rw (take-append-le (h - 4) s t (omega (arith, w .inside)))
     (keeps-then {o = requestOf (take (h - 4) s)} same
-    (λ q d. keeps-then {o = given (k .mount (q .path)) 19} same
+    (λ q d. keeps-then {o = mountFor (k .mounts) (q .path)} same
     (λ m c. keeps-then (keeps-body s t h (q .bodyLength)) (λ b a. same)))))
 
-keeps-forward : (lent : Outcome Known) (s t : List ℕ) → Keeps (forwardOf lent s) (forwardOf lent (s ++ t))
+keeps-forward : (lent : Outcome Lent) (s t : List ℕ) → Keeps (forwardOf lent s) (forwardOf lent (s ++ t))
 unfolding forwardOf
 keeps-forward (refused n) s t = same
 keeps-forward (gives k) s t = after-lent k s t
 
-within : (lent : Outcome Known) (s : List ℕ) (f : Forward) → forwardOf lent s ≡ gives f → (0 < f .used) × (f .used ≤ length s)
+within : (lent : Outcome Lent) (s : List ℕ) (f : Forward) → forwardOf lent s ≡ gives f → (0 < f .used) × (f .used ≤ length s)
 within lent s f e =
     let z = lent-of lent s f e in
     let l = links (z .k) s f (rw (z .is) at e) in
@@ -56,10 +58,11 @@ within lent s f e =
     let w = head-within s (l .h) (l .head) in
     (omega (arith, u, w .last), omega (arith, u, b .there))
 
-steady : (lent : Outcome Known) → Steady (forwardOf lent) (λ f. f .used)
+steady : (lent : Outcome Lent) → Steady (forwardOf lent) (λ f. f .used)
 steady lent = record { more = λ s t h. kept (keeps-forward lent s t) h; within = within lent }
 
 pub pipelines-frame : PipelinesFrame
-pipelines-frame lent =
+pipelines-frame facts site mounts =
+    let lent = lentOf facts site mounts in
     let f = steady-frames (steady lent) in
     record { frames = f; equal = spools-equal (usedBy lent) f; cut = spool-cut (usedBy lent) f; goes-on = spool-goes-on (usedBy lent) f }

@@ -21,9 +21,9 @@ use Rattle.http.specs.Fields.{Field}
 use Rattle.http.specs.Target.{queryOf}
 use Rattle.lent.specs.Settings.{Auth, Settings}
 use Rattle.lent.specs.Mounts.{Route}
+use Rattle.lent.specs.Claims.{ProperAuth, neither, both, ProperSettings}
 use Rattle.gateway.specs.Meaning.{Meaning}
 use Rattle.gateway.specs.Variables.{ifPresent, present, authTypeOf, remoteUserOf, httpVariable, fixed, variables}
-use Rattle.gateway.specs.Claims.{ProperAuth, neither, both, ProperSettings}
 use Rattle.gateway.proofs.Proper.{isLowerName, ProperField, Optionally, absent, there, ProperMeaning, ProperRoute}
 use Rattle.gateway.proofs.NameBytes.{http-name-once, http-name-bytes}
 

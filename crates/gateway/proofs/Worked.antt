@@ -1,12 +1,9 @@
 -- The cases that 01 marks W, the reader's and the gateway's, as one statement over one list; 01's whole output, and further cases.
 -- Assumes nothing.
-use Prim.Native.Nat.{ℕ, _+_}
+use Prim.Native.Nat.{ℕ}
 use Prim.Native.String.{String}
 use mathlib.Core.Path.{_≡_, refl}
-use mathlib.Core.Bool.{cond, _||_}
 use mathlib.Core.List.{List, [], _∷_, _++_, map}
-use mathlib.Core.Option.{Option, none, some}
-use lib.ListN.{length, take}
 use Rattle.octets.specs.Text.{bytes, barred}
 use Rattle.octets.specs.Outcome.{Outcome, refused, gives}
 use Rattle.octets.specs.Kinds.{isDigit, isLetter, isHex, isToken, isName, isTarget, isValue, isBlank}
@@ -16,7 +13,8 @@ use Rattle.octets.specs.Compare.{sameBytes, lowerOf, upperOf}
 use Rattle.octets.specs.Lists.{isIn, different}
 use Rattle.octets.specs.Decimal.{numberFrom, digitsIn}
 use Rattle.octets.specs.Parts.{parted}
-use Rattle.scgi.specs.Block.{Header, printed, paired}
+use Rattle.scgi.specs.Block.{printed, paired}
+use Rattle.scgi.specs.Lookup.{valueIn}
 use Rattle.scgi.specs.Check.{has, checkBlock}
 use Rattle.scgi.specs.Netstring.{lengthFrom}
 use Rattle.scgi.specs.Read.{Places, readOf}
@@ -26,6 +24,9 @@ use Rattle.http.specs.RequestLine.{isMethod, isVersion, versionOf, requestLineO
 use Rattle.http.specs.Escape.{escapesRight, hexValue, decodedFrom}
 use Rattle.http.specs.Target.{pathOf, queryOf, rawRight, noDots, segmentsRight, decodedRight, targetOf}
 use Rattle.http.specs.Fields.{fieldOf, eachField}
+use Rattle.lent.specs.Settings.{settingsOf}
+use Rattle.lent.specs.Mounts.{begins, mountOf}
+use Rattle.lent.specs.Lent.{ends, allMounts, lentOf}
 use Rattle.gateway.specs.Fields.{passed, addedBy, grouped, valuesOf}
 use Rattle.gateway.specs.Variables.{fixed}
 use Rattle.gateway.specs.Step.{
@@ -34,11 +35,11 @@ use Rattle.gateway.specs.Step.{
   rulesOf,
   requestOf,
   bodyOf,
-  Known,
   Forward,
   writtenFor,
   forwardOf,
   stepWith,
+  stepOf,
 }
 
 -- a head of these lines
@@ -46,23 +47,15 @@ abbrev pub headText : List String → List ℕ
 headText [] = 13 ∷ 10 ∷ []
 headText (l ∷ ls) = bytes l ++ 13 ∷ 10 ∷ headText ls
 
--- one mount, and what else is lent in 01's example
-abbrev pub mounted : Header → List ℕ → Option Header
-mounted m path = cond (sameBytes path (m .name) || sameBytes (take (length (m .name) + 1) path) (m .name ++ 47 ∷ [])) (some m) none
+-- what is lent in 01's example: connection facts, site settings and mounts; the pool of `/jobs` is `a`
+abbrev pub facts : List ℕ
+facts = barred "REMOTE_ADDR|10.0.0.9|"
 
-abbrev pub lent : Outcome Known
-lent =
-    gives (record {
-      settings =
-          record {
-            auth = none;
-            remoteAddr = bytes "10.0.0.9";
-            serverName = bytes "q.example";
-            serverPort = bytes "80";
-            serverSoftware = bytes "gate/1";
-          };
-      mount = mounted (record { name = bytes "/jobs"; value = bytes "a" });
-    })
+abbrev pub site : List ℕ
+site = barred "SERVER_NAME|q.example|SERVER_PORT|80|SERVER_SOFTWARE|gate/1|"
+
+abbrev pub mounts : List ℕ
+mounts = barred "/jobs|a|"
 
 -- what is asked: of the reader, SCGI bytes with | for NUL; of the step, the lines of a head, the bytes after it, and the output's room
 pub data Asked : Type 0 where
@@ -76,7 +69,7 @@ pub data Answer : Type 0 where
 
 abbrev pub answerTo : Asked → Answer
 answerTo (reader t) = read (readOf (barred t))
-answerTo (step ls rest room) = forward (stepWith lent (headText ls ++ bytes rest) room)
+answerTo (step ls rest room) = forward (stepOf facts site mounts (headText ls ++ bytes rest) room)
 
 pub record Case : Type 0 where
   pub asked : Asked
@@ -112,7 +105,7 @@ cases =
     ∷ []
 
 pub all-right : map (λ c. answerTo (c .asked)) cases ≡ map (λ c. c .answer) cases
-unfolding cases readOf lengthFrom checkBlock parted paired different isIn sameBytes numberFrom isDigit has stepWith forwardOf headOf endFrom linesFrom requestOf requestLineOf versionOf isMethod isVersion isToken isLetter isHex isTarget isName isValue isBlank run allOf count kept escapesRight hexValue decodedFrom pathOf queryOf rawRight noDots segmentsRight decodedRight targetOf fieldOf eachField lowerOf rulesOf hostRight contentOf valuesOf
+unfolding cases readOf lengthFrom checkBlock parted paired different isIn sameBytes numberFrom isDigit has stepWith lentOf settingsOf allMounts begins ends mountOf valueIn forwardOf headOf endFrom linesFrom requestOf requestLineOf versionOf isMethod isVersion isToken isLetter isHex isTarget isName isValue isBlank run allOf count kept escapesRight hexValue decodedFrom pathOf queryOf rawRight noDots segmentsRight decodedRight targetOf fieldOf eachField lowerOf rulesOf hostRight contentOf valuesOf
 all-right = refl
 
 -- 01's example: "Whole output, | for NUL, 272 bytes"
@@ -172,5 +165,5 @@ further =
     ∷ []
 
 pub further-right : map (λ c. answerTo (c .asked)) further ≡ map (λ c. c .answer) further
-unfolding further sameBytes isIn numberFrom digitsIn isDigit printed parted stepWith forwardOf writtenFor headOf endFrom linesFrom requestOf requestLineOf versionOf isMethod isVersion isToken isLetter isHex isTarget isName isValue isBlank run allOf count kept escapesRight hexValue decodedFrom pathOf queryOf rawRight noDots segmentsRight decodedRight targetOf fieldOf eachField lowerOf upperOf rulesOf hostRight contentOf valuesOf bodyOf fixed passed addedBy grouped
+unfolding further sameBytes isIn numberFrom digitsIn isDigit printed parted paired different stepWith lentOf settingsOf allMounts begins ends mountOf valueIn forwardOf writtenFor headOf endFrom linesFrom requestOf requestLineOf versionOf isMethod isVersion isToken isLetter isHex isTarget isName isValue isBlank run allOf count kept escapesRight hexValue decodedFrom pathOf queryOf rawRight noDots segmentsRight decodedRight targetOf fieldOf eachField lowerOf upperOf rulesOf hostRight contentOf valuesOf bodyOf fixed passed addedBy grouped
 further-right = refl

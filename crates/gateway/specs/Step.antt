@@ -3,7 +3,6 @@
 use Prim.Native.Nat.{ℕ, _+_, _-_}
 use mathlib.Core.Bool.{Bool, cond}
 use mathlib.Core.List.{List, [], _∷_}
-use mathlib.Core.Option.{Option}
 use lib.Dec.{eqb, leb}
 use lib.ListN.{length, take, drop}
 use Rattle.octets.specs.Text.{bytes}
@@ -18,7 +17,8 @@ use Rattle.http.specs.RequestLine.{FirstLine, requestLineOf}
 use Rattle.http.specs.Target.{targetOf}
 use Rattle.http.specs.Fields.{Field, fieldsOf}
 use Rattle.lent.specs.Settings.{Settings}
-use Rattle.lent.specs.Mounts.{Route}
+use Rattle.lent.specs.Mounts.{Route, mountFor, routeOf}
+use Rattle.lent.specs.Lent.{Lent, lentOf}
 use Rattle.gateway.specs.Fields.{lowered, valuesOf}
 use Rattle.gateway.specs.Meaning.{Meaning, meaningOf}
 use Rattle.gateway.specs.Variables.{variables, bytesOf}
@@ -86,15 +86,6 @@ meaningAt http =
     then (bodyOf http h (q .bodyLength)) (λ b.
     gives (meaningOf (q .first) (q .fields) (b .body)))))
 
--- what the gateway is lent, as the step takes it: the settings, and the mount that a decoded path fits, or none
-pub record Known : Type 0 where
-  pub settings : Settings
-  pub mount : List ℕ → Option Header
-
--- of the mount that won: "SCRIPT_NAME is that name, PATH_INFO the rest."
-abbrev pub routeOf : Header → List ℕ → Route
-routeOf m path = record { scriptName = m .name; pathInfo = drop (length (m .name)) path }
-
 -- "each value, the pool"
 abbrev pub poolOf : Header → List ℕ
 poolOf m = m .value
@@ -112,21 +103,24 @@ writtenFor s r m pool used =
     (gives (record { scgi = bytesOf s r m; pool = pool; used = used }))
 
 -- "Order: 20; then 11 or 1; 12; 13; 14; 15; 16; 17; 18; 19; 9; 1 for a short body; 22": what is to be written, whatever the room.
--- 19: "no mount fits"
-unfoldable pub forwardOf : Outcome Known → List ℕ → Outcome Forward
+unfoldable pub forwardOf : Outcome Lent → List ℕ → Outcome Forward
 forwardOf lent http =
-    then lent (λ k.
+    then lent (λ l.
     then (headOf http) (λ h.
     then (requestOf (take (h - 4) http)) (λ q.
-    then (given (k .mount (q .path)) 19) (λ m.
+    then (mountFor (l .mounts) (q .path)) (λ m.
     then (bodyOf http h (q .bodyLength)) (λ b.
     let meaning = meaningOf (q .first) (q .fields) (b .body) in
-    writtenFor (k .settings) (routeOf m (q .path)) meaning (poolOf m) (b .used))))))
+    writtenFor (l .settings) (routeOf m (q .path)) meaning (poolOf m) (b .used))))))
 
 -- ".. 21": "output shorter than the bytes to be written", for an output of `room` bytes
-unfoldable pub stepWith : Outcome Known → List ℕ → ℕ → Outcome Forward
+unfoldable pub stepWith : Outcome Lent → List ℕ → ℕ → Outcome Forward
 stepWith lent http room = then (forwardOf lent http) (λ f. need (leb (length (f .scgi)) room) 21 (gives f))
 
+-- the step from an HTTP request, under the three blocks that are lent
+abbrev pub stepOf : (facts site mounts http : List ℕ) (room : ℕ) → Outcome Forward
+stepOf facts site mounts http room = stepWith (lentOf facts site mounts) http room
+
 -- a request's byte length, for requests that stand end to end: the bytes used of a request that is accepted in room enough
-abbrev pub usedBy : Outcome Known → List ℕ → Outcome ℕ
+abbrev pub usedBy : Outcome Lent → List ℕ → Outcome ℕ
 usedBy lent http = then (forwardOf lent http) (λ f. gives (f .used))

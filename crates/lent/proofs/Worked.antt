@@ -3,12 +3,10 @@
 use Prim.Native.Nat.{ℕ}
 use Prim.Native.String.{String}
 use mathlib.Core.Path.{_≡_, refl}
-use mathlib.Core.Bool.{cond}
 use mathlib.Core.List.{List, [], _∷_, map}
 use mathlib.Core.Option.{none, some}
-use lib.Dec.{eqb}
 use lib.ListN.{replicate}
-use Rattle.octets.specs.Text.{bytes}
+use Rattle.octets.specs.Text.{bytes, barred}
 use Rattle.octets.specs.Outcome.{Outcome, refused, gives, then}
 use Rattle.octets.specs.Kinds.{isDigit}
 use Rattle.octets.specs.Compare.{sameBytes}
@@ -20,10 +18,6 @@ use Rattle.scgi.specs.Lookup.{valueIn}
 use Rattle.lent.specs.Settings.{Settings, settingsOf}
 use Rattle.lent.specs.Mounts.{Route, begins, mountOf, mountFor, routeOf}
 use Rattle.lent.specs.Lent.{Lent, ends, allMounts, blockOf, mountsOf, lentOf}
-
--- | for NUL
-abbrev pub barred : String → List ℕ
-barred t = map (λ b. cond (eqb b 124) 0 b) (bytes t)
 
 -- What is lent.
 

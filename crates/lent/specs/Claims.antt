@@ -3,9 +3,12 @@
 use Prim.Native.Nat.{ℕ}
 use mathlib.Core.Path.{_≡_}
 use mathlib.Core.List.{List, _++_}
-use mathlib.Core.Option.{some}
+use mathlib.Core.Option.{Option, none, some}
 use Rattle.octets.specs.Outcome.{refused, gives}
+use Rattle.octets.specs.Lists.{All, NoNul}
 use Rattle.scgi.specs.Block.{Header, parsed}
+use Rattle.scgi.specs.Grammar.{Proper, Among}
+use Rattle.lent.specs.Settings.{Auth, Settings}
 use Rattle.lent.specs.Lent.{Lent, lentOf}
 use Rattle.lent.specs.Mounts.{mountOf, tried, routeOf}
 use Rattle.lent.specs.Places.{settingsAt}
@@ -22,6 +25,29 @@ abbrev pub RouteIsPath : Type 0
 RouteIsPath =
     (ms : List Header) (path : List ℕ) (m : Header) → mountOf ms path ≡ some m
     → routeOf m path .scriptName ++ routeOf m path .pathInfo ≡ path
+
+-- the mount that wins is one of the mounts
+abbrev pub WinnerIsMount : Type 0
+WinnerIsMount = (ms : List Header) (path : List ℕ) (m : Header) → mountOf ms path ≡ some m → Among m ms
+
+-- what the form of the blocks gives, "name, NUL, value, NUL": no NUL in a value or a name
+pub data ProperAuth : Option Auth → Type 0 where
+  neither : ProperAuth none
+  both : {a : Auth} → NoNul (a .authType) → NoNul (a .remoteUser) → ProperAuth (some a)
+
+pub record ProperSettings (s : Settings) : Type 0 where
+  pub auth : ProperAuth (s .auth)
+  pub remoteAddr : NoNul (s .remoteAddr)
+  pub serverName : NoNul (s .serverName)
+  pub serverPort : NoNul (s .serverPort)
+  pub serverSoftware : NoNul (s .serverSoftware)
+
+pub record ProperLent (l : Lent) : Type 0 where
+  pub settings : ProperSettings (l .settings)
+  pub mounts : All Proper (l .mounts)
+
+abbrev pub LentIsProper : Type 0
+LentIsProper = (facts site mounts : List ℕ) (l : Lent) → lentOf facts site mounts ≡ gives l → ProperLent l
 
 -- "Any breach of this section is 20"
 abbrev pub LentNumber : Type 0

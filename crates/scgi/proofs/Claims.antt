@@ -1,6 +1,6 @@
 -- Each claim of specs/Claims.antt, proved. Crates above cite this file and no other of this folder.
 -- Assumes nothing.
-use Rattle.scgi.specs.Claims.{MoreBytesKeepAnswer, UsedWithin, CutGivesOne, SpoolsHold, AcceptsExactly, RequestOnce, WritesExactly, WriteThenRead, ReadThenWrite, LookupFindsValue, WellFormedHeaded, HeadersFew, PlacesInside, NumbersHold, LargestRequest}
+use Rattle.scgi.specs.Claims.{MoreBytesKeepAnswer, UsedWithin, CutGivesOne, SpoolsHold, AcceptsExactly, RequestOnce, WritesExactly, WriteThenRead, ReadThenWrite, LookupFindsValue, WellFormedHeaded, HeadersFew, HeadersProper, PlacesInside, NumbersHold, LargestRequest}
 use Rattle.scgi.proofs.Reader as Reader
 use Rattle.scgi.proofs.Requests as Requests
 use Rattle.scgi.proofs.Writer as Writer
@@ -43,6 +43,9 @@ well-formed-headed = Lookups.well-formed-headed
 
 pub headers-few : HeadersFew
 headers-few = Lookups.headers-few
+
+pub headers-proper : HeadersProper
+headers-proper = Lookups.headers-proper
 
 pub places-inside : PlacesInside
 places-inside = record { of-one = Lookups.place-fits; of-first = Lookups.first-fits; of-second = Lookups.second-fits }

@@ -16,7 +16,7 @@ use Rattle.octets.proofs.Outcomes.{then-gives, given-gives}
 use Rattle.scgi.specs.Block.{Header, printed, headersOf, parsed, isSome, wellFormed, countOf, headerIn, HeaderFound}
 use Rattle.scgi.specs.Grammar.{Proper}
 use Rattle.scgi.specs.Lookup.{Part, partOption, placeIn, valueIn, lookupOf}
-use Rattle.scgi.specs.Claims.{LookupFindsValue, WellFormedHeaded, HeadersFew}
+use Rattle.scgi.specs.Claims.{LookupFindsValue, WellFormedHeaded, HeadersFew, HeadersProper}
 use Rattle.scgi.specs.Setting.{in-first, in-second, firstOf, settingOf}
 use Rattle.scgi.specs.declared.block.HeaderPlace.the-variants.{At}
 use Rattle.scgi.proofs.Blocks.{printed-read, behind-name, behind-printed}
@@ -64,6 +64,9 @@ pub headers-few : HeadersFew
 headers-few b hs e =
     let p = printed-read b hs (given-gives (headersOf b) 5 hs e) in
     omega (arith, ap length (p .bytes), printed-length hs (p .proper))
+
+pub headers-proper : HeadersProper
+headers-proper b hs e = printed-read b hs (given-gives (headersOf b) 5 hs e) .proper
 
 -- a refusal of the parse is every step's
 pub count-refused : {A : Type 0} (b : List ℕ) (n : ℕ) (f : List Header → Outcome A) → countOf b ≡ refused n → then (parsed b) f ≡ refused n

@@ -11,9 +11,10 @@ use lib.ListN.{length, take}
 use Rattle.octets.specs.Outcome.{refused, gives}
 use Rattle.octets.specs.Kinds.{oneOf}
 use Rattle.octets.specs.Decimal.{decimal}
+use Rattle.octets.specs.Lists.{All}
 use Rattle.framing.specs.Claims.{Frames, SpoolsEqual, SpoolCut, SpoolGoesOn}
 use Rattle.scgi.specs.Block.{Header, printed, parsed, wellFormed}
-use Rattle.scgi.specs.Grammar.{netstring, encoded, IsRequest}
+use Rattle.scgi.specs.Grammar.{netstring, encoded, Proper, IsRequest}
 use Rattle.scgi.specs.Lookup.{Part, partOption, valueIn, lookupOf}
 use Rattle.scgi.specs.Read.{Places, readOf, usedOf, blockIn, bodyIn}
 use Rattle.scgi.specs.Setting.{in-first, in-second, settingOf}
@@ -123,6 +124,10 @@ WellFormedHeaded = (block : List ℕ) → (wellFormed block ≡ true) ↔ Headed
 -- a header takes a byte of name and two NULs at least
 abbrev pub HeadersFew : Type 0
 HeadersFew = (block : List ℕ) (hs : List Header) → parsed block ≡ gives hs → 3 * length hs ≤ length block
+
+-- the headers of a block are those of the grammar, "name ::= notnull+, value ::= notnull*"
+abbrev pub HeadersProper : Type 0
+HeadersProper = (block : List ℕ) (hs : List Header) → parsed block ≡ gives hs → All Proper hs
 
 -- a place that is given lies in its block
 pub record PlacesInside : Type 0 where

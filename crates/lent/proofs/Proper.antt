@@ -1,0 +1,145 @@
+-- What is lent can stand in a block: no NUL in a value or a name; the mount that wins is one of the mounts.
+-- Assumes nothing.
+use Prim.Native.Nat.{ℕ}
+use Prim.{absurd}
+use mathlib.Core.Path.{_≡_, refl, ap, _∙_}
+use mathlib.Core.Bool.{Bool, true, false, cond, not}
+use mathlib.Core.List.{List, [], _∷_}
+use mathlib.Core.Option.{Option, none, some}
+use native.Mathlib.Omega.{arith}
+use lib.Dec.{leb}
+use lib.ListN.{length}
+use Rattle.octets.specs.Text.{bytes}
+use Rattle.octets.specs.Outcome.{gives, given}
+use Rattle.octets.specs.Compare.{sameBytes}
+use Rattle.octets.specs.Lists.{All, _&_, NoNul, isNil, different}
+use Rattle.octets.proofs.Outcomes.{need-gives, given-gives, then-gives}
+use Rattle.scgi.specs.Block.{Header, names, headersOf}
+use Rattle.scgi.specs.Grammar.{Proper, Among, here, later}
+use Rattle.scgi.specs.Lookup.{valueIn}
+use Rattle.scgi.proofs.Claims.{headers-proper}
+use Rattle.lent.specs.Settings.{Auth, Settings, filled, orIn, sought, isPort, portIn, authOf, settingsOf}
+use Rattle.lent.specs.Mounts.{fits, longer, mountOf}
+use Rattle.lent.specs.Lent.{Lent, blockOf, mountsOf, lentOf}
+use Rattle.lent.specs.Claims.{ProperAuth, neither, both, ProperSettings, LentIsProper, WinnerIsMount}
+use Rattle.lent.proofs.CheckSteps.{lent-mounts}
+
+gives-once : {A : Type 0} (a b : A) → gives a ≡ gives b → a ≡ b
+gives-once a b e = cc
+
+-- Blocks.
+
+block-proper : (limit : ℕ) (block : List ℕ) (hs : List Header) → blockOf limit block ≡ gives hs → All Proper hs
+block-proper limit block hs e =
+    let a = need-gives (leb (length block) limit) 20 _ hs e in
+    let b = then-gives (given (headersOf block) 20) _ hs (a .1) in
+    let c = need-gives (different (names (b .it))) 20 (gives (b .it)) hs (b .next) in
+    headers-proper block hs (ap (λ (o : Option (List Header)). given o 5) (given-gives (headersOf block) 20 (b .it) (b .first)) ∙ c .1)
+
+-- Values.
+
+-- a value that is there has no NUL
+abbrev Plain : Option (List ℕ) → Type 0
+Plain o = (v : List ℕ) → o ≡ some v → NoNul v
+
+value-plain : (name : List ℕ) (hs : List Header) → All Proper hs → Plain (valueIn name hs)
+unfolding valueIn
+value-plain name [] p v e = absurd (let z : _≡_ {A = ℕ} 0 1 = cc in omega arith)
+value-plain name (h ∷ hs) (p & ps) v e = by (sameBytes (h .name) name) (value-plain name hs ps v) e
+  where
+    by : (t : Bool) → (valueIn name hs ≡ some v → NoNul v) → cond t (some (h .value)) (valueIn name hs) ≡ some v → NoNul v
+    by true ih q =
+        let z : h .value ≡ v = cc in
+        rw (← z) (p .value-bytes)
+    by false ih q = ih q
+
+or-plain : (a b : Option (List ℕ)) → Plain a → Plain b → Plain (orIn a b)
+or-plain none b p q = q
+or-plain (some v) b p q = p
+
+filled-plain : (o : Option (List ℕ)) (v : List ℕ) → Plain o → filled o ≡ gives v → NoNul v
+filled-plain o v p e =
+    let a = then-gives (given o 20) _ v e in
+    let b = need-gives (not (isNil (a .it))) 20 (gives (a .it)) v (a .next) in
+    p v (given-gives o 20 v (a .first ∙ b .1))
+
+auth-proper : (t u : Option (List ℕ)) (a : Option Auth) → Plain t → Plain u → authOf t u ≡ gives a → ProperAuth a
+auth-proper none none a p q e = rw (← gives-once none a e) neither
+auth-proper none (some u) a p q e = absurd (let z : _≡_ {A = ℕ} 0 1 = cc in omega arith)
+auth-proper (some t) u a p q e =
+    let b = then-gives (filled (some t)) _ a e in
+    let c = then-gives (filled u) _ a (b .next) in
+    both-at (b .it) (c .it) (filled-plain (some t) (b .it) p (b .first)) (filled-plain u (c .it) q (c .first)) (gives-once _ a (c .next))
+  where
+    both-at : (x y : List ℕ) → NoNul x → NoNul y → some (record { authType = x; remoteUser = y }) ≡ a → ProperAuth a
+    both-at x y m n z = rw (← z) (both m n)
+
+module _ (facts site : List Header) (pf : All Proper facts) (ps : All Proper site) where
+  sought-plain : (name v : List ℕ) → sought name facts site ≡ gives v → NoNul v
+  sought-plain name v e =
+      filled-plain (orIn (valueIn name facts) (valueIn name site)) v
+      (or-plain (valueIn name facts) (valueIn name site) (value-plain name facts pf) (value-plain name site ps)) e
+
+  port-plain : (v : List ℕ) → portIn facts site ≡ gives v → NoNul v
+  port-plain v e =
+      let a = then-gives (sought (bytes "SERVER_PORT") facts site) _ v e in
+      let b = need-gives (isPort (a .it)) 20 (gives (a .it)) v (a .next) in
+      sought-plain (bytes "SERVER_PORT") v (a .first ∙ b .1)
+
+  settings-at :
+      (s : Settings) (name port software addr : List ℕ) (auth : Option Auth) → NoNul name → NoNul port → NoNul software → NoNul addr → ProperAuth auth
+      → record { auth = auth; remoteAddr = addr; serverName = name; serverPort = port; serverSoftware = software } ≡ s → ProperSettings s
+  settings-at s name port software addr auth n p w a u z =
+      rw (← z) (record { auth = u; remoteAddr = a; serverName = n; serverPort = p; serverSoftware = w })
+
+  settings-proper : (s : Settings) → settingsOf facts site ≡ gives s → ProperSettings s
+  unfolding settingsOf
+  settings-proper s e =
+      let a = then-gives (sought (bytes "SERVER_NAME") facts site) _ s e in
+      let b = then-gives (portIn facts site) _ s (a .next) in
+      let c = then-gives (sought (bytes "SERVER_SOFTWARE") facts site) _ s (b .next) in
+      let d = then-gives (filled (valueIn (bytes "REMOTE_ADDR") facts)) _ s (c .next) in
+      let f = then-gives (authOf (valueIn (bytes "AUTH_TYPE") facts) (valueIn (bytes "REMOTE_USER") facts)) _ s (d .next) in
+      settings-at s (a .it) (b .it) (c .it) (d .it) (f .it)
+      (sought-plain (bytes "SERVER_NAME") (a .it) (a .first))
+      (port-plain (b .it) (b .first))
+      (sought-plain (bytes "SERVER_SOFTWARE") (c .it) (c .first))
+      (filled-plain (valueIn (bytes "REMOTE_ADDR") facts) (d .it) (value-plain (bytes "REMOTE_ADDR") facts pf) (d .first))
+      (auth-proper (valueIn (bytes "AUTH_TYPE") facts) (valueIn (bytes "REMOTE_USER") facts) (f .it) (value-plain (bytes "AUTH_TYPE") facts pf) (value-plain (bytes "REMOTE_USER") facts pf) (f .first))
+      (gives-once _ s (f .next))
+
+pub lent-is-proper : LentIsProper
+unfolding lentOf
+lent-is-proper facts site mounts l e =
+    let a = then-gives (blockOf 1024 facts) _ l e in
+    let b = then-gives (blockOf 1024 site) _ l (a .next) in
+    let c = then-gives (mountsOf mounts) _ l (b .next) in
+    let d = then-gives (settingsOf (a .it) (b .it)) _ l (c .next) in
+    let z : record { settings = d .it; mounts = c .it } ≡ l = gives-once _ l (d .next) in
+    record {
+      settings =
+          settings-proper (a .it) (b .it) (block-proper 1024 facts (a .it) (a .first)) (block-proper 1024 site (b .it) (b .first)) (l .settings)
+          (d .first ∙ ap (λ (x : Lent). gives (x .settings)) z);
+      mounts = headers-proper mounts (l .mounts) (lent-mounts facts site mounts l e);
+    }
+
+-- The mount that wins.
+
+pub winner-is-mount : WinnerIsMount
+unfolding mountOf
+winner-is-mount [] path m e = absurd (let z : _≡_ {A = ℕ} 0 1 = cc in omega arith)
+winner-is-mount (x ∷ ms) path m e = by (fits (x .name) path) (mountOf ms path) refl (winner-is-mount ms path) e
+  where
+    first-wins : x ≡ m → Among m (x ∷ ms)
+    first-wins z = rw z here
+
+    by-length : (t : Bool) (o : Header) → (some o ≡ some m → Among m ms) → cond t (some x) (some o) ≡ some m → Among m (x ∷ ms)
+    by-length true o ih q = first-wins (cc)
+    by-length false o ih q = later (ih q)
+
+    by :
+        (t : Bool) (o : Option Header) → mountOf ms path ≡ o → ((m : Header) → mountOf ms path ≡ some m → Among m ms)
+        → cond t (longer x o) o ≡ some m → Among m (x ∷ ms)
+    by true none s ih q = first-wins (cc)
+    by true (some o) s ih q = by-length (leb (length (o .name)) (length (x .name))) o (λ r. ih m (s ∙ r)) q
+    by false o s ih q = later (ih m (s ∙ q))
