@@ -3,6 +3,7 @@
 mod print; // words and numbers on standard output
 mod scgi_cases; // the reader, the writer and the lookups
 mod http_cases; // the parts of an HTTP head
+mod response_cases; // script response heads
 
 fn main() {
     scgi_cases::reader();
@@ -15,4 +16,11 @@ fn main() {
     http_cases::targets();
     http_cases::field_cases();
     http_cases::fields_of_heads();
+    response_cases::rows();
+    response_cases::malformed();
+    response_cases::contradictions_of_fields();
+    response_cases::contradictions_of_rows();
+    response_cases::most_lines();
+    response_cases::longest_head();
+    response_cases::too_long_head();
 }
