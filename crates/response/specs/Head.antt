@@ -96,6 +96,7 @@ headWith k none = none
 headWith k (some h) = cond (leb (length (h .lines)) k) (endsAt (h .ends) (fieldsOf (h .lines))) none
 
 -- "the head ends with the first empty line, within 8,192 bytes, and has at most 64 lines before it; field lines as above, but `_` is
--- allowed. Else 24."
+-- allowed. Else 24." The empty line's LF is among the first 8,192 bytes. A CR that does not belong to a line's end is no byte of a name or
+-- of a value, so it is 24 too.
 unfoldable pub headOf : List ℕ → Outcome Head
 headOf s = given (headWith 64 (linesAt 0 (take 8192 s))) 24

@@ -36,8 +36,8 @@ abbrev pub isThere : Option Value → Bool
 isThere none = false
 isThere (some v) = true
 
--- "Then, or 25": what is asked of Content-Type, Location and Status, and the table. s is the output, whose head has n fields and ends at a
--- place
+-- "Then, or 25": what is asked of the values of Content-Type, Location and Status, and the table. s is the output, whose head has n fields
+-- and ends at a place
 abbrev pub judged : List ℕ → ℕ → ℕ → Option Value → Option Value → Option Value → Outcome Answer
 judged s ends n content location status =
     need (filled content) 25
@@ -52,6 +52,7 @@ judgedHead s h =
     (judged s (h .ends) (length fs) (firstValue (named (bytes "content-type") fs)) (firstValue (named (bytes "location") fs))
     (firstValue (named (bytes "status") fs)))
 
--- "The input is the script's whole output." 24 for its head, "Then, or 25"
+-- "The input is the script's whole output." 24 over the whole head, and only "Then, or 25". An output that begins with an empty line has no
+-- field, and the table has no row for it: 25
 unfoldable pub responseOf : List ℕ → Outcome Answer
 responseOf s = then (headOf s) (λ h. judgedHead s h)
