@@ -11,3 +11,4 @@ pub mod Numbers
 pub mod Worked
 pub mod Claims
 pub mod Puts
+pub mod FieldVariables

@@ -4,3 +4,4 @@ pub mod Variables
 pub mod Step
 pub mod Claims
 pub mod Put
+pub mod FieldVariables
