@@ -24,7 +24,7 @@ or-right true e = refl
 or-right false e = e
 
 -- a name that was seen differs from one that was not
-unlike : (n m : List ℕ) (seen : List (List ℕ)) → isIn n seen ≡ true → isIn m seen ≡ false → sameBytes n m ≡ false
+pub unlike : (n m : List ℕ) (seen : List (List ℕ)) → isIn n seen ≡ true → isIn m seen ≡ false → sameBytes n m ≡ false
 unlike n m seen e d = by (sameBytes n m) refl
   where
     by : (t : Bool) → sameBytes n m ≡ t → t ≡ false

@@ -15,3 +15,4 @@ pub mod RequestSteps
 pub mod Claims
 pub mod Puts
 pub mod FixedVariables
+pub mod FieldVariables

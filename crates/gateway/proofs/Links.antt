@@ -9,7 +9,7 @@ use lib.ListN.{length, take, drop}
 use borrow.Author.Tests.{leb-true}
 use Rattle.octets.specs.Outcome.{Outcome, gives, need}
 use Rattle.octets.specs.Kinds.{isName}
-use Rattle.octets.proofs.Outcomes.{need-gives, given-gives, then-gives}
+use Rattle.octets.proofs.Outcomes.{need-gives, given-gives, gives-once, then-gives}
 use Rattle.scgi.specs.Block.{Header, printed}
 use Rattle.http.specs.Head.{headOf}
 use Rattle.http.specs.Lines.{linesOf}
@@ -23,9 +23,6 @@ use Rattle.gateway.specs.Fields.{lowered}
 use Rattle.gateway.specs.Meaning.{Meaning, meaningOf}
 use Rattle.gateway.specs.Variables.{variables, bytesOf}
 use Rattle.gateway.specs.Step.{rulesOf, Request, requestOf, Body, bodyOf, poolOf, Forward, writtenFor, forwardOf, stepWith}
-
-gives-once : {A : Type 0} (a b : A) → gives a ≡ gives b → a ≡ b
-gives-once a b e = cc
 
 -- of a head
 pub record RequestLinks (head : List ℕ) (q : Request) : Type 0 where

@@ -7,3 +7,4 @@ pub mod RequestRead
 pub mod Claims
 pub mod Put
 pub mod FixedBytes
+pub mod FieldVariables

@@ -3,3 +3,4 @@ pub mod rules; // the rules over all fields of a request
 pub mod put; // variables, written one after the other
 pub mod fixed_variables; // the variables before the fields
 pub mod request; // the parts of a request's head
+pub mod field_variables; // the variables of a request's fields

@@ -1,4 +1,4 @@
--- Targets by computation: the case that 01 marks W, and further cases, as one statement over one list.
+-- Targets by computation: cases that 01 settles by its words, as one statement over one list.
 -- Assumes nothing.
 use Prim.Native.Nat.{ℕ}
 use Prim.Native.String.{String}

@@ -13,7 +13,7 @@ use Rattle.octets.specs.Text.{bytes}
 use Rattle.octets.specs.Outcome.{gives, given}
 use Rattle.octets.specs.Compare.{sameBytes}
 use Rattle.octets.specs.Lists.{All, _&_, NoNul, isNil, different}
-use Rattle.octets.proofs.Outcomes.{need-gives, given-gives, then-gives}
+use Rattle.octets.proofs.Outcomes.{need-gives, given-gives, gives-once, then-gives}
 use Rattle.scgi.specs.Block.{Header, names, headersOf}
 use Rattle.scgi.specs.Grammar.{Proper, Among, here, later}
 use Rattle.scgi.specs.Lookup.{valueIn}
@@ -23,9 +23,6 @@ use Rattle.lent.specs.Mounts.{fits, longer, mountOf}
 use Rattle.lent.specs.Lent.{Lent, blockOf, mountsOf, lentOf}
 use Rattle.lent.specs.Claims.{ProperAuth, neither, both, ProperSettings, LentIsProper, WinnerIsMount}
 use Rattle.lent.proofs.CheckSteps.{lent-mounts}
-
-gives-once : {A : Type 0} (a b : A) → gives a ≡ gives b → a ≡ b
-gives-once a b e = cc
 
 -- Blocks.
 

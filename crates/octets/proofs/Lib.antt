@@ -11,6 +11,7 @@ pub mod Scans
 pub mod Trims
 pub mod Parting
 pub mod Compares
+pub mod Cases
 pub mod Names
 pub mod Copies
 pub mod Decimals

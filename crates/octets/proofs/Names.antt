@@ -9,7 +9,7 @@ use native.Mathlib.Omega.{arith}
 use borrow.Author.Tests.{not-true}
 use Rattle.octets.specs.Compare.{sameBytes}
 use Rattle.octets.specs.Lists.{All, no-more, _&_, isIn, different, Different, no-name, one-more}
-use Rattle.octets.proofs.Bools.{and-left, and-right}
+use Rattle.octets.proofs.Bools.{and-left, and-right, or-false}
 use Rattle.octets.proofs.Compares.{same-refl, same-false}
 
 pub not-in : (n : List ℕ) (ns : List (List ℕ)) → All (λ m. n ≡ m → ⊥) ns → isIn n ns ≡ false
@@ -53,3 +53,26 @@ unfolding different
 different-append [] b e p d = d
 different-append (n ∷ a) b e (q & p) d =
     rw (is-in-append n a b (not-true _ (and-left _ (different a) e)) q, different-append a b (and-right (not (isIn n a)) _ e) p d)
+
+-- a name of lists that are put together is one of either
+pub in-either : (n : List ℕ) (a b : List (List ℕ)) → isIn n (a ++ b) ≡ isIn n a || isIn n b
+unfolding isIn
+in-either n [] b = refl
+in-either n (m ∷ a) b = rw (in-either n a b) (by (sameBytes n m))
+  where
+    by : (t : Bool) → t || (isIn n a || isIn n b) ≡ (t || isIn n a) || isIn n b
+    by true = refl
+    by false = refl
+
+-- the first of a list, or one of the others
+pub in-first : (n m : List ℕ) (ms : List (List ℕ)) → sameBytes n m ≡ true → isIn n (m ∷ ms) ≡ true
+unfolding isIn
+in-first n m ms e = rw e
+
+pub in-others : (n m : List ℕ) (ms : List (List ℕ)) → sameBytes n m ≡ false → isIn n (m ∷ ms) ≡ isIn n ms
+unfolding isIn
+in-others n m ms e = rw e
+
+pub in-one : (n m : List ℕ) → isIn n (m ∷ []) ≡ sameBytes n m
+unfolding isIn
+in-one n m = or-false (sameBytes n m)

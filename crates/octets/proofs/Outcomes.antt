@@ -17,6 +17,10 @@ module _ {A : Type 0} where
   given-gives none n a e = cc
   given-gives (some b) n a e = cc
 
+-- an answer is given once
+pub gives-once : {A : Type 0} (a b : A) → gives a ≡ gives b → a ≡ b
+gives-once a b e = cc
+
 pub record Gave {A B : Type 0} (o : Outcome A) (f : A → Outcome B) (b : B) : Type 0 where
   pub it : A
   pub first : o ≡ gives it
