@@ -1,9 +1,12 @@
 -- Each claim of specs/Claims.antt, proved. Crates above cite this file and no other of this folder.
 -- Assumes nothing.
-use Rattle.lent.specs.Claims.{LongestWins, RouteIsPath, WinnerIsMount, LentNumber, LentMounts, LentIsProper, PlacesAreLent}
+use Rattle.lent.specs.Claims.{MountIsLongest, LongestWins, RouteIsPath, WinnerIsMount, LentNumber, LentMounts, LentIsProper, PlacesAreLent}
 use Rattle.lent.proofs.Mounts as Mounts
 use Rattle.lent.proofs.CheckSteps as CheckSteps
 use Rattle.lent.proofs.Proper as Proper
+
+pub mount-is-longest : MountIsLongest
+mount-is-longest = Mounts.mount-is-longest
 
 pub longest-wins : LongestWins
 longest-wins = Mounts.longest-wins

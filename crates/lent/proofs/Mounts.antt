@@ -3,21 +3,25 @@
 use Prim.Native.Nat.{ℕ, zero, suc, _-_, _≤_, _<_}
 use Prim.{absurd}
 use mathlib.Core.Path.{_≡_, refl, sym, ap, _∙_}
-use mathlib.Core.Bool.{Bool, true, false, cond, _&&_, _||_}
+use mathlib.Core.Bool.{Bool, true, false, false≢true, cond, _&&_, _||_}
 use mathlib.Core.List.{List, [], _∷_, _++_}
 use mathlib.Core.Option.{Option, none, some}
+use native.Mathlib.Nat.{le-refl, le-trans}
 use native.Mathlib.Omega.{arith}
 use lib.Dec.{eqb, leb}
 use lib.ListN.{length, take, drop, getD, length-append}
 use lib.Seq.{take-suc}
-use borrow.Author.Tests.{eq-eqb, ne-eqb, eqb-true, eqb-false, le-leb, lt-leb}
+use borrow.Author.Tests.{eq-eqb, ne-eqb, eqb-true, eqb-false, le-leb, lt-leb, leb-true, leb-false}
 use Rattle.octets.specs.Compare.{sameBytes}
+use Rattle.octets.specs.Lists.{All, no-more, _&_}
+use Rattle.octets.proofs.Alls.{all-implies}
 use Rattle.octets.proofs.Bools.{and-left, and-right, and-false}
 use Rattle.octets.proofs.Compares.{same-true}
 use Rattle.scgi.specs.Block.{Header}
+use Rattle.scgi.specs.Grammar.{here, later}
 use Rattle.scgi.specs.Lookup.{valueIn}
 use Rattle.lent.specs.Mounts.{begins, fits, longer, mountOf, beforeSlash, shortened, mountNamed, orShorter, triedIn}
-use Rattle.lent.specs.Claims.{LongestWins, RouteIsPath}
+use Rattle.lent.specs.Claims.{Longest, MountIsLongest, LongestWins, RouteIsPath}
 
 -- Bytes that begin with others.
 
@@ -238,3 +242,60 @@ tried-enough (suc n) ms path h = by (valueIn path ms) (shortened path) refl refl
 
 pub longest-wins : LongestWins
 longest-wins ms path = tried-enough (suc (length path)) ms path (omega arith)
+
+-- The mount that wins is the longest that fits.
+
+module _ (path : List ℕ) where
+  pub none-fits : (ms : List Header) → mountOf ms path ≡ none → All (λ o. fits (o .name) path ≡ false) ms
+  unfolding mountOf
+  none-fits [] e = no-more
+  none-fits (m ∷ ms) e = by (fits (m .name) path) refl (mountOf ms path) e (none-fits ms)
+    where
+      never : (g : Header) (u : Bool) → cond u (some m) (some g) ≡ none → ⊥
+      never g true r = let z : _≡_ {A = ℕ} 0 1 = cc in omega arith
+      never g false r = let z : _≡_ {A = ℕ} 0 1 = cc in omega arith
+
+      by :
+          (t : Bool) → fits (m .name) path ≡ t → (w : Option Header) → cond t (longer m w) w ≡ none
+          → (w ≡ none → All (λ o. fits (o .name) path ≡ false) ms) → All (λ o. fits (o .name) path ≡ false) (m ∷ ms)
+      by true q none r ih = absurd (never m true r)
+      by true q (some g) r ih = absurd (never g (leb (length (g .name)) (length (m .name))) r)
+      by false q w r ih = q & ih r
+
+  pub wins : (ms : List Header) (m : Header) → mountOf ms path ≡ some m → Longest ms path m
+  unfolding mountOf
+  wins [] m e = absurd (let z : _≡_ {A = ℕ} 0 1 = cc in omega arith)
+  wins (h ∷ ms) m e = by (fits (h .name) path) refl (mountOf ms path) refl e (wins ms)
+    where
+      pick :
+          (g : Header) (u : Bool) → leb (length (g .name)) (length (h .name)) ≡ u → fits (h .name) path ≡ true → cond u (some h) (some g) ≡ some m
+          → Longest ms path g → Longest (h ∷ ms) path m
+      pick g true u q r l =
+          let z : h ≡ m = cc in
+          let s : length (g .name) ≤ length (h .name) = leb-true (length (g .name)) (length (h .name)) u in
+          rw (← z)
+          (record { among = here; it-fits = q; longest = (λ f. le-refl (length (h .name))) & all-implies (λ o n f. le-trans (n f) s) (l .longest) })
+      pick g false u q r l =
+          let z : g ≡ m = cc in
+          let s : length (h .name) < length (g .name) = leb-false (length (g .name)) (length (h .name)) u in
+          let t : length (h .name) ≤ length (g .name) = omega arith in
+          rw (← z) (record { among = later (l .among); it-fits = l .it-fits; longest = (λ f. t) & l .longest })
+
+      by :
+          (t : Bool) → fits (h .name) path ≡ t → (w : Option Header) → mountOf ms path ≡ w → cond t (longer h w) w ≡ some m
+          → ((o : Header) → w ≡ some o → Longest ms path o) → Longest (h ∷ ms) path m
+      by true q none p r ih =
+          let z : h ≡ m = cc in
+          rw (← z)
+          (record {
+            among = here;
+            it-fits = q;
+            longest = (λ f. le-refl (length (h .name))) & all-implies (λ o n f. absurd (false≢true (sym n ∙ f))) (none-fits ms p);
+          })
+      by true q (some g) p r ih = pick g (leb (length (g .name)) (length (h .name))) refl q r (ih g refl)
+      by false q w p r ih =
+          let l = ih m r in
+          record { among = later (l .among); it-fits = l .it-fits; longest = (λ f. absurd (false≢true (sym q ∙ f))) & l .longest }
+
+pub mount-is-longest : MountIsLongest
+mount-is-longest = record { wins = λ ms path m e. wins path ms m e; none-fits = λ ms path e. none-fits path ms e }

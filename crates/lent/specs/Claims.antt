@@ -1,20 +1,33 @@
 -- What is claimed of what the gateway is lent.
 -- Assumes nothing.
-use Prim.Native.Nat.{ℕ}
+use Prim.Native.Nat.{ℕ, _≤_}
 use mathlib.Core.Path.{_≡_}
+use mathlib.Core.Bool.{true, false}
 use mathlib.Core.List.{List, _++_}
 use mathlib.Core.Option.{Option, none, some}
+use lib.ListN.{length}
 use Rattle.octets.specs.Outcome.{refused, gives}
 use Rattle.octets.specs.Lists.{All, NoNul}
 use Rattle.scgi.specs.Block.{Header, parsed}
 use Rattle.scgi.specs.Grammar.{Proper, Among}
 use Rattle.lent.specs.Settings.{Auth, Settings}
 use Rattle.lent.specs.Lent.{Lent, lentOf}
-use Rattle.lent.specs.Mounts.{mountOf, tried, routeOf}
+use Rattle.lent.specs.Mounts.{fits, mountOf, tried, routeOf}
 use Rattle.lent.specs.Places.{settingsAt}
 use Rattle.lent.specs.Check.{LentFound}
 use Rattle.lent.specs.declared.places.SettingPlaces.{SettingPlaces}
 use Rattle.lent.specs.declared.check.Checked.the-variants.{Lent as CheckedLent}
+
+-- m is one of the mounts, fits, and no mount that fits has a longer name
+pub record Longest (ms : List Header) (path : List ℕ) (m : Header) : Type 0 where
+  pub among : Among m ms
+  pub it-fits : fits (m .name) path ≡ true
+  pub longest : All (λ o. fits (o .name) path ≡ true → length (o .name) ≤ length (m .name)) ms
+
+-- "the longest mount that fits wins", and where none wins none fits
+pub record MountIsLongest : Type 0 where
+  pub wins : (ms : List Header) (path : List ℕ) (m : Header) → mountOf ms path ≡ some m → Longest ms path m
+  pub none-fits : (ms : List Header) (path : List ℕ) → mountOf ms path ≡ none → All (λ o. fits (o .name) path ≡ false) ms
 
 -- trying the path, then the path without its last segment, and so on, finds the mount that wins: "the longest mount that fits wins"
 abbrev pub LongestWins : Type 0
