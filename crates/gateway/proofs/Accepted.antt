@@ -27,7 +27,7 @@ use Rattle.http.proofs.Places.{fields-few}
 use Rattle.lent.specs.Mounts.{Route, mountFor, routeOf}
 use Rattle.lent.specs.Lent.{Lent}
 use Rattle.lent.specs.Claims.{ProperLent}
-use Rattle.lent.proofs.Claims.{winner-is-mount}
+use Rattle.lent.proofs.Claims.{mount-is-longest}
 use Rattle.gateway.specs.Meaning.{Meaning, meaningOf}
 use Rattle.gateway.specs.Variables.{fixed, variables, bytesOf}
 use Rattle.gateway.specs.Step.{Forward, meaningAt, forwardOf}
@@ -104,7 +104,7 @@ module _ (k : Lent) (sound : ProperLent k) (http : List ℕ) (f : Forward) (l : 
   path-bytes = rw (r .path) (path-no-nul (l .q .first .target) (r .target) target)
 
   route-proper : ProperRoute route
-  route-proper = record { scriptName = one-of (winner-is-mount (k .mounts) (l .q .path) (l .m) (l .mount)) (sound .mounts) .name-bytes; pathInfo = all-after (length (l .m .name)) (l .q .path) path-bytes }
+  route-proper = record { scriptName = one-of (mount-is-longest .wins (k .mounts) (l .q .path) (l .m) (l .mount) .among) (sound .mounts) .name-bytes; pathInfo = all-after (length (l .m .name)) (l .q .path) path-bytes }
 
   query : NoNul (queryOf (meaning .target))
   query = rw (← target .query-is) (query-no-nul (l .q .first .target) (r .target) target)

@@ -14,28 +14,10 @@ ghost use Rattle.gateway.specs.Put.{ifThere, PutDone};
 ghost use Rattle.gateway.specs.FieldVariables.{lowName, namesBefore, lowFrom, addedAt, valueFrom, makes, variableFrom};
 use crate::put::Put;
 use crate::put::put_piece;
+use crate::stored::field_name;
+use crate::stored::field_value;
 use octets::compare::same_letters;
 use octets::compare::upper;
-
-// The name of the field with number k.
-fn field_name<'a>(head: &'a [u8], places: &[u64], k: usize) -> &'a [u8]
-    requires { ⌜ (4 * k + 3 < length (now places)) × Inside (now head) (now places) k ⌝ }
-    ensures { λ r. ⌜ now r ≡ fieldAt (now (head .entry)) (now (places .entry)) k .name ⌝ }
-{
-    let start = places[4 * k] as usize;
-    let len = places[4 * k + 1] as usize;
-    &head[start..start + len]
-}
-
-// The value of the field with number k.
-fn field_value<'a>(head: &'a [u8], places: &[u64], k: usize) -> &'a [u8]
-    requires { ⌜ (4 * k + 3 < length (now places)) × Inside (now head) (now places) k ⌝ }
-    ensures { λ r. ⌜ now r ≡ fieldAt (now (head .entry)) (now (places .entry)) k .value ⌝ }
-{
-    let start = places[4 * k + 2] as usize;
-    let len = places[4 * k + 3] as usize;
-    &head[start..start + len]
-}
 
 // Whether a name is one of the first four that are not passed.
 fn not_passed_first(name: &[u8]) -> bool

@@ -1,4 +1,5 @@
 // From an HTTP request to SCGI bytes.
+pub mod stored; // the fields of a request, by their stored places
 pub mod rules; // the rules over all fields of a request
 pub mod put; // variables, written one after the other
 pub mod fixed_variables; // the variables before the fields

@@ -10,6 +10,7 @@ ghost use Rattle.http.specs.Fields.{Inside, AllInside, fieldAt, fieldsAt};
 ghost use Rattle.gateway.specs.Fields.{lowered, valuesOf};
 ghost use Rattle.gateway.specs.Step.{hostRight, statedBy};
 ghost use Rattle.gateway.specs.Rules.{FoundIn, cappedOutcome, statedOutcome, RulesRead};
+use crate::stored::field_name;
 use octets::compare::same_letters;
 use octets::decimal;
 use octets::decimal::Number;
@@ -23,22 +24,12 @@ pub struct Found {
     pub len: usize,
 }
 
-// The name of the field with the number k.
-fn stored_name<'a>(head: &'a [u8], places: &[u64], k: usize) -> &'a [u8]
-    requires { ⌜ (4 * k + 4 ≤ length (now places)) × Inside (now head) (now places) k ⌝ }
-    ensures { λ r. ⌜ now r ≡ fieldAt (now (head .entry)) (now (places .entry)) k .name ⌝ }
-{
-    let start = places[4 * k] as usize;
-    let len = places[4 * k + 1] as usize;
-    &head[start..start + len]
-}
-
 // What was found of a name, and the field with the number k, if it has the name too.
 fn with_field(head: &[u8], places: &[u64], k: usize, name: &[u8], seen: Found) -> Found
     requires { ⌜ (4 * k + 4 ≤ length (now places)) × (seen .count ≤ k) × Inside (now head) (now places) k ⌝ }
     ensures { λ r. ⌜ ((vs : List (List ℕ)) → FoundIn (now (head .entry)) vs (seen .count) (seen .start) (seen .len) → FoundIn (now (head .entry)) (vs ++ valuesOf (map lowerOf (now (name .entry))) (lowered (fieldAt (now (head .entry)) (now (places .entry)) k ∷ []))) (r .count) (r .start) (r .len)) ⌝ }
 {
-    if !same_letters(stored_name(head, places, k), name) {
+    if !same_letters(field_name(head, places, k), name) {
         return seen;
     }
     if seen.count == 0 {

@@ -1,6 +1,6 @@
 -- Each claim of specs/Claims.antt, proved. Crates above cite this file and no other of this folder.
 -- Assumes nothing.
-use Rattle.lent.specs.Claims.{MountIsLongest, LongestWins, RouteIsPath, WinnerIsMount, LentNumber, LentMounts, LentIsProper, PlacesAreLent}
+use Rattle.lent.specs.Claims.{MountIsLongest, LongestWins, RouteIsPath, LentNumber, LentMounts, LentIsProper, PlacesAreLent}
 use Rattle.lent.proofs.Mounts as Mounts
 use Rattle.lent.proofs.CheckSteps as CheckSteps
 use Rattle.lent.proofs.Proper as Proper
@@ -13,9 +13,6 @@ longest-wins = Mounts.longest-wins
 
 pub route-is-path : RouteIsPath
 route-is-path = Mounts.route-is-path
-
-pub winner-is-mount : WinnerIsMount
-winner-is-mount = Proper.winner-is-mount
 
 pub lent-is-proper : LentIsProper
 lent-is-proper = Proper.lent-is-proper

@@ -1,4 +1,4 @@
--- What is lent can stand in a block: no NUL in a value or a name; the mount that wins is one of the mounts.
+-- What is lent can stand in a block: no NUL in a value or a name.
 -- Assumes nothing.
 use Prim.Native.Nat.{ℕ}
 use Prim.{absurd}
@@ -15,13 +15,12 @@ use Rattle.octets.specs.Compare.{sameBytes}
 use Rattle.octets.specs.Lists.{All, _&_, NoNul, isNil, different}
 use Rattle.octets.proofs.Outcomes.{need-gives, given-gives, gives-once, then-gives}
 use Rattle.scgi.specs.Block.{Header, names, headersOf}
-use Rattle.scgi.specs.Grammar.{Proper, Among, here, later}
+use Rattle.scgi.specs.Grammar.{Proper}
 use Rattle.scgi.specs.Lookup.{valueIn}
 use Rattle.scgi.proofs.Claims.{headers-proper}
 use Rattle.lent.specs.Settings.{Auth, Settings, filled, orIn, sought, isPort, portIn, authOf, settingsOf}
-use Rattle.lent.specs.Mounts.{fits, longer, mountOf}
 use Rattle.lent.specs.Lent.{Lent, blockOf, mountsOf, lentOf}
-use Rattle.lent.specs.Claims.{ProperAuth, neither, both, ProperSettings, LentIsProper, WinnerIsMount}
+use Rattle.lent.specs.Claims.{ProperAuth, neither, both, ProperSettings, LentIsProper}
 use Rattle.lent.proofs.CheckSteps.{lent-mounts}
 
 -- Blocks.
@@ -119,24 +118,3 @@ lent-is-proper facts site mounts l e =
           (d .first ∙ ap (λ (x : Lent). gives (x .settings)) z);
       mounts = headers-proper mounts (l .mounts) (lent-mounts facts site mounts l e);
     }
-
--- The mount that wins.
-
-pub winner-is-mount : WinnerIsMount
-unfolding mountOf
-winner-is-mount [] path m e = absurd (let z : _≡_ {A = ℕ} 0 1 = cc in omega arith)
-winner-is-mount (x ∷ ms) path m e = by (fits (x .name) path) (mountOf ms path) refl (winner-is-mount ms path) e
-  where
-    first-wins : x ≡ m → Among m (x ∷ ms)
-    first-wins z = rw z here
-
-    by-length : (t : Bool) (o : Header) → (some o ≡ some m → Among m ms) → cond t (some x) (some o) ≡ some m → Among m (x ∷ ms)
-    by-length true o ih q = first-wins (cc)
-    by-length false o ih q = later (ih q)
-
-    by :
-        (t : Bool) (o : Option Header) → mountOf ms path ≡ o → ((m : Header) → mountOf ms path ≡ some m → Among m ms)
-        → cond t (longer x o) o ≡ some m → Among m (x ∷ ms)
-    by true none s ih q = first-wins (cc)
-    by true (some o) s ih q = by-length (leb (length (o .name)) (length (x .name))) o (λ r. ih m (s ∙ r)) q
-    by false o s ih q = later (ih m (s ∙ q))

@@ -39,10 +39,6 @@ RouteIsPath =
     (ms : List Header) (path : List ℕ) (m : Header) → mountOf ms path ≡ some m
     → routeOf m path .scriptName ++ routeOf m path .pathInfo ≡ path
 
--- the mount that wins is one of the mounts
-abbrev pub WinnerIsMount : Type 0
-WinnerIsMount = (ms : List Header) (path : List ℕ) (m : Header) → mountOf ms path ≡ some m → Among m ms
-
 -- what the form of the blocks gives, "name, NUL, value, NUL": no NUL in a value or a name
 pub data ProperAuth : Option Auth → Type 0 where
   neither : ProperAuth none

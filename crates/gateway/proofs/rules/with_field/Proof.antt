@@ -15,10 +15,10 @@ has-name :
     (c : tie.After-same-letters)
     → (let a = c .before .before .before .before .before .args in
     sameLetters (fieldAt (a .head .now) (a .places .now) (a .k) .name) (a .name .now) ≡ c .same-letters .result)
-has-name c = sym (c .same-letters .ensures ∙ rw (c .before .stored-name .ensures))
+has-name c = sym (c .same-letters .ensures ∙ rw (c .before .field-name .ensures))
 
-stored-name-requires : tie.Need-stored-name-requires
-stored-name-requires c κs = search needs
+field-name-requires : tie.Need-field-name-requires
+field-name-requires c κs = search needs
 
 same-letters-requires : tie.Need-same-letters-requires
 same-letters-requires c κs = search needs
@@ -68,7 +68,7 @@ pub with-field-spec : {M : Type 1} → statement M
 with-field-spec =
     tie.close
     (tie.spec
-    stored-name-requires
+    field-name-requires
     same-letters-requires
     returns
     mul-t9

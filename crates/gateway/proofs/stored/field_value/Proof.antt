@@ -1,14 +1,17 @@
--- `gateway::rules::stored_name` meets its contract.
+-- `gateway::stored::field_value` meets its contract.
 -- Assumes nothing.
 use Prim.Native.Nat.{_+_, _*_}
-use Rattle.gateway.proofs.rules.stored_name.Statement.{statement}
-use Rattle.gateway.proofs.rules.stored_name.Tie as tie
+use Rattle.gateway.proofs.stored.field_value.Statement.{statement}
+use Rattle.gateway.proofs.stored.field_value.Tie as tie
 use Rattle.octets.proofs.Lists.{part}
 use borrow.Author.Needs.{needs}
 use lib.ListN.{getD}
 
 mul-start : tie.Need-mul-start
 mul-start c = search needs
+
+add-start : tie.Need-add-start
+add-start c = search needs
 
 mul-start-2 : tie.Need-mul-start-2
 mul-start-2 c = search needs
@@ -41,14 +44,16 @@ part-result-end : tie.Need-part-result-end
 part-result-end c = search needs
 
 returns : tie.Need-returns
-returns c = let a = c .before .before .before .args in
-    part (a .head .now) (getD (a .places .now) (4 * a .k) 0) (getD (a .places .now) (4 * a .k + 1) 0)
+returns c =
+    let a = c .before .before .before .args in
+    part (a .head .now) (getD (a .places .now) (4 * a .k + 2) 0) (getD (a .places .now) (4 * a .k + 3) 0)
 
-pub stored-name-spec : {M : Type 1} → statement M
-stored-name-spec =
+pub field-value-spec : {M : Type 1} → statement M
+field-value-spec =
     tie.close
     (tie.spec
     mul-start
+    add-start
     mul-start-2
     shared-slice-read-start
     mul-len

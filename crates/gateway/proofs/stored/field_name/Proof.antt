@@ -1,17 +1,14 @@
--- `gateway::field_variables::field_value` meets its contract.
+-- `gateway::stored::field_name` meets its contract.
 -- Assumes nothing.
 use Prim.Native.Nat.{_+_, _*_}
-use Rattle.gateway.proofs.field_variables.field_value.Statement.{statement}
-use Rattle.gateway.proofs.field_variables.field_value.Tie as tie
+use Rattle.gateway.proofs.stored.field_name.Statement.{statement}
+use Rattle.gateway.proofs.stored.field_name.Tie as tie
 use Rattle.octets.proofs.Lists.{part}
 use borrow.Author.Needs.{needs}
 use lib.ListN.{getD}
 
 mul-start : tie.Need-mul-start
 mul-start c = search needs
-
-add-start : tie.Need-add-start
-add-start c = search needs
 
 mul-start-2 : tie.Need-mul-start-2
 mul-start-2 c = search needs
@@ -46,14 +43,13 @@ part-result-end c = search needs
 returns : tie.Need-returns
 returns c =
     let a = c .before .before .before .args in
-    part (a .head .now) (getD (a .places .now) (4 * a .k + 2) 0) (getD (a .places .now) (4 * a .k + 3) 0)
+    part (a .head .now) (getD (a .places .now) (4 * a .k) 0) (getD (a .places .now) (4 * a .k + 1) 0)
 
-pub field-value-spec : {M : Type 1} → statement M
-field-value-spec =
+pub field-name-spec : {M : Type 1} → statement M
+field-name-spec =
     tie.close
     (tie.spec
     mul-start
-    add-start
     mul-start-2
     shared-slice-read-start
     mul-len
