@@ -1,5 +1,6 @@
-# make test: the whole gate. make check: prove what changed. make run: the program of vectors. make spool: the spool program.
-.PHONY: test check run spool fmt clean
+# make test: the whole gate. make check: prove what changed. make run: the program of vectors. make spool: the spool program. make bench:
+# the spool program beside cat and wc.
+.PHONY: test check run spool bench fmt clean
 
 test:
 	bash .ci/run
@@ -12,6 +13,9 @@ run:
 
 spool:
 	rt check spool
+
+bench: spool
+	bash bench/spool.sh
 
 fmt:
 	rt fmt
