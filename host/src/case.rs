@@ -148,25 +148,11 @@ pub fn observe(side: &dyn Calls, case: &Case) -> Observed {
     Observed { code, answer: answer.content().to_vec(), out: out.content().to_vec(), lengths: lengths.content().to_vec() }
 }
 
-/// Whether both calls gave the same. Where the empty part of an absent name lies is free, inside of the block.
-fn agree(case: &Case, archive: &Observed, reference: &Observed) -> bool {
-    let absent = matches!(case.call, Call::Find | Call::Setting) && reference.code == 0 && reference.answer[0] == 0;
-    if !absent {
-        return archive == reference;
-    }
-    let most = case.inputs.iter().map(Vec::len).max().unwrap_or(0) as u64;
-    let place_is_free = archive.answer[1] <= most;
-    let (mut given, mut wanted) = (archive.answer.clone(), reference.answer.clone());
-    given[1] = 0;
-    wanted[1] = 0;
-    archive.code == 0 && place_is_free && given == wanted
-}
-
 /// Makes the call on both sides and gives what the archive gave. Panics with the case where they differ.
 pub fn compare(case: &Case) -> Observed {
     let archive = observe(&Archive, case);
     let reference = observe(&Reference, case);
-    if !agree(case, &archive, &reference) {
+    if archive != reference {
         let differs = |what: &str, same: bool| if same { String::new() } else { format!("; {what} differs") };
         panic!(
             "{}: the archive gave {} {:?}, the reference {} {:?}{}{}\n{}",
