@@ -1,0 +1,4 @@
+pub mod Answer
+pub mod Read
+pub mod Find
+pub mod Setting
