@@ -2,3 +2,5 @@ pub mod Answer
 pub mod Read
 pub mod Find
 pub mod Setting
+pub mod Spool
+pub mod Respond

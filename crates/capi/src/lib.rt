@@ -6,3 +6,5 @@ pub mod answer; // the numbers that a call gives, stored in the lent list
 pub mod read; // oy_scgi_read
 pub mod find; // oy_scgi_find
 pub mod setting; // oy_setting
+pub mod spool; // oy_spool
+pub mod respond; // oy_response
