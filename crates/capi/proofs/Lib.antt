@@ -1,2 +1,3 @@
 pub mod Answers
+pub mod Writes
 pub mod Spools

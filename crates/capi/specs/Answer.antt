@@ -3,14 +3,13 @@
 use Prim.Native.Nat.{ℕ}
 use mathlib.Core.Path.{_≡_}
 use mathlib.Core.List.{List}
-use lib.Dec.{leb}
 use lib.ListN.{length}
-use Rattle.octets.specs.Outcome.{Outcome, refused, gives, then, need}
-use Rattle.scgi.specs.Write.{outputAfter}
+use Rattle.octets.specs.Outcome.{Outcome, refused, gives, then}
+use Rattle.scgi.specs.Write.{inRoom, outputAfter}
 
 -- the numbers that a call gives into a lent list: a list too short for them is 21, last of all
 abbrev pub fitting : Outcome (List ℕ) → List ℕ → Outcome (List ℕ)
-fitting o list = then o (λ ns. need (leb (length ns) (length list)) 21 (gives ns))
+fitting o list = then o (λ ns. inRoom ns (length list))
 
 -- "Every refusal returns its number and nothing else"; where there is none, 0
 abbrev pub returned : Outcome (List ℕ) → ℕ

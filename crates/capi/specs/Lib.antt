@@ -1,5 +1,6 @@
 pub mod Answer
 pub mod Read
+pub mod Write
 pub mod Find
 pub mod Setting
 pub mod Spool
