@@ -2,8 +2,8 @@
 -- Assumes nothing.
 use Prim.Native.Nat.{ℕ, _+_, _≤_}
 use mathlib.Core.Path.{_≡_}
-use mathlib.Core.Bool.{cond}
-use mathlib.Core.List.{List}
+use mathlib.Core.Bool.{Bool, true, false, cond}
+use mathlib.Core.List.{List, []}
 use mathlib.Core.Option.{Option, none, some}
 use lib.ListN.{length, take, drop}
 use Rattle.octets.specs.Text.{bytes}
@@ -38,6 +38,19 @@ valueAt facts site p = take (p .len) (drop (p .start) (cond (p .site) site facts
 abbrev pub authAt : List ℕ → AuthPlaces → Option Values.Auth
 authAt facts (Given t u) = some (record { authType = factAt facts t; remoteUser = factAt facts u })
 authAt facts Absent = none
+
+-- AUTH_TYPE and REMOTE_USER: whether they are there, and each by itself, empty where it is absent
+abbrev pub isGiven : AuthPlaces → Bool
+isGiven (Given t u) = true
+isGiven Absent = false
+
+abbrev pub authTypeAt : List ℕ → AuthPlaces → List ℕ
+authTypeAt facts (Given t u) = factAt facts t
+authTypeAt facts Absent = []
+
+abbrev pub remoteUserAt : List ℕ → AuthPlaces → List ℕ
+remoteUserAt facts (Given t u) = factAt facts u
+remoteUserAt facts Absent = []
 
 abbrev pub settingsAt : List ℕ → List ℕ → SettingPlaces → Values.Settings
 settingsAt facts site p =

@@ -13,7 +13,7 @@ use Rattle.octets.specs.Copy.{over, Wrote}
 use Rattle.octets.proofs.Copies.{and-then}
 use Rattle.scgi.specs.Grammar.{netstring}
 use Rattle.scgi.specs.Check.{checkBlock}
-use Rattle.scgi.specs.Write.{toWrite, writeOf, Written}
+use Rattle.scgi.specs.Write.{toWrite, inRoom, writeOf, WrittenOut, Written}
 use Rattle.scgi.specs.declared.write.Writing.the-variants.{Bytes, Refused}
 use Rattle.scgi.proofs.Requests.{netstring-length}
 
@@ -29,16 +29,25 @@ four-writes d b d₁ d₂ d₃ d₄ r₁ r₂ r₃ r₄ room w₁ w₂ w₃ w₄
     let x₄ = and-then x₃ (simp length-append (omega arith)) (44 ∷ []) d₄ r₄ w₄ in
     simp append-assoc at x₄
 
+-- What is to be written goes out, or there is no room for it.
+
+module _ (w d : List ℕ) where
+  pub no-room : length d < length w → WrittenOut (inRoom w (length d)) d d (Refused 21)
+  no-room h =
+      let e = lt-leb (length w) (length d) h in
+      record { answer = rw e; output = rw e }
+
+  pub has-room : (after : List ℕ) (n : ℕ) → length w ≤ length d → Wrote d 0 w after n → WrittenOut (inRoom w (length d)) d after (Bytes n)
+  unfolding over
+  has-room after n h x =
+      let e = le-leb (length w) (length d) h in
+      record { answer = rw e (ap gives (x .ends ∙ zero-add (length w))); output = rw e (x .holds ∙ rw (zero-add (length w))) }
+
 -- The writer's chain, and what it leaves in the output d.
 
 module _ (block body d : List ℕ) where
   pub left-alone : (k : ℕ) → writeOf block body (length d) ≡ refused k → Written block body d d (Refused k)
   left-alone k e = record { answer = rw e; output = rw e }
-
-  pub written-out : (w after : List ℕ) (n : ℕ) → writeOf block body (length d) ≡ gives w → Wrote d 0 w after n → Written block body d after (Bytes n)
-  unfolding over
-  written-out w after n e x =
-      record { answer = rw e (ap gives (x .ends ∙ zero-add (length w))); output = rw e (x .holds ∙ rw (zero-add (length w))) }
 
   pub too-large : 16384 < length block → writeOf block body (length d) ≡ refused 3
   unfolding writeOf toWrite
@@ -54,14 +63,9 @@ module _ (block body d : List ℕ) where
       unfolding writeOf toWrite
       other-length q = rw (le-leb (length block) 16384 h, e, ne-eqb (length body) n q)
 
-      module _ (q : length body ≡ n) where
-        pub no-room : length d < length (netstring block ++ body) → writeOf block body (length d) ≡ refused 21
-        unfolding writeOf toWrite
-        no-room r = rw (le-leb (length block) 16384 h, e, eq-eqb (length body) n q, lt-leb (length (netstring block ++ body)) (length d) r)
-
-        pub has-room : length (netstring block ++ body) ≤ length d → writeOf block body (length d) ≡ gives (netstring block ++ body)
-        unfolding writeOf toWrite
-        has-room r = rw (le-leb (length block) 16384 h, e, eq-eqb (length body) n q, le-leb (length (netstring block ++ body)) (length d) r)
+      pub only-room : length body ≡ n → writeOf block body (length d) ≡ inRoom (netstring block ++ body) (length d)
+      unfolding writeOf toWrite
+      only-room q = rw (le-leb (length block) 16384 h, e, eq-eqb (length body) n q)
 
 -- how many bytes are to be written
 pub size-is : (block body : List ℕ) → length (netstring block ++ body) ≡ length (decimal (length block)) + 2 + length block + length body

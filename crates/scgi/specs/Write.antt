@@ -18,9 +18,13 @@ toWrite block body =
     (then (checkBlock block) (λ n.
     need (eqb (length body) n) 23 (gives (netstring block ++ body))))
 
--- "Its order is 3, 5, 6, 7, 8, 9, 10, 23, 21", for an output of `room` bytes
+-- 21: "output shorter than the bytes to be written", for an output of `room` bytes
+abbrev pub inRoom : List ℕ → ℕ → Outcome (List ℕ)
+inRoom w room = need (leb (length w) room) 21 (gives w)
+
+-- "Its order is 3, 5, 6, 7, 8, 9, 10, 23, 21"
 unfoldable pub writeOf : List ℕ → List ℕ → ℕ → Outcome (List ℕ)
-writeOf block body room = then (toWrite block body) (λ w. need (leb (length w) room) 21 (gives w))
+writeOf block body room = then (toWrite block body) (λ w. inRoom w room)
 
 -- what the code's answer says
 abbrev pub writingOutcome : Writing → Outcome ℕ
@@ -32,6 +36,10 @@ abbrev pub outputAfter : Outcome (List ℕ) → List ℕ → List ℕ
 outputAfter (refused n) d = d
 outputAfter (gives w) d = w ++ drop (length w) d
 
-pub record Written (block body before after : List ℕ) (r : Writing) : Type 0 where
-  pub answer : writingOutcome r ≡ then (writeOf block body (length before)) (λ w. gives (length w))
-  pub output : after ≡ outputAfter (writeOf block body (length before)) before
+-- of the bytes that are to be written, or the refusal: what the answer r says, and what the output is after it
+pub record WrittenOut (o : Outcome (List ℕ)) (before after : List ℕ) (r : Writing) : Type 0 where
+  pub answer : writingOutcome r ≡ then o (λ w. gives (length w))
+  pub output : after ≡ outputAfter o before
+
+abbrev pub Written : (block body before after : List ℕ) → Writing → Type 0
+Written block body before after r = WrittenOut (writeOf block body (length before)) before after r

@@ -5,7 +5,7 @@ ghost use Prim.Native.Nat.{_+_, _≤_};
 ghost use lib.ListN.{length};
 ghost use Rattle.octets.specs.Copy.{Wrote};
 ghost use Rattle.scgi.specs.Grammar.{netstring};
-ghost use Rattle.scgi.specs.Write.{Written};
+ghost use Rattle.scgi.specs.Write.{inRoom, WrittenOut, Written};
 use crate::check::Checked;
 use crate::check::check_block;
 use octets::copy::put;
@@ -28,6 +28,19 @@ fn put_netstring(out: &mut [u8], block: &[u8]) -> usize
     put(out, c, b",")
 }
 
+// Writes a block as netstring and a body to the start of out, where there is room for both.
+pub fn write_parts(block: &[u8], body: &[u8], out: &mut [u8]) -> Writing
+    requires { ⌜ (length (now block) ≤ 16384) × (length (now body) ≤ 1048576) ⌝ }
+    ensures { λ r. ⌜ WrittenOut (inRoom (netstring (now (block .entry)) ++ now (body .entry)) (length (now (out .entry)))) (now (out .entry)) (now (out .exit)) r ⌝ }
+{
+    let size = decimal::digits(block.len() as u64) + 2 + block.len() + body.len();
+    if out.len() < size {
+        return Writing::Refused(21);
+    }
+    let at = put_netstring(out, block);
+    Writing::Bytes(put(out, at, body))
+}
+
 // Writes the request of a block and a body to the start of out.
 pub fn write(block: &[u8], body: &[u8], out: &mut [u8]) -> Writing
     ensures { λ r. ⌜ Written (now (block .entry)) (now (body .entry)) (now (out .entry)) (now (out .exit)) r ⌝ }
@@ -45,10 +58,5 @@ pub fn write(block: &[u8], body: &[u8], out: &mut [u8]) -> Writing
     if body.len() != n {
         return Writing::Refused(23);
     }
-    let size = decimal::digits(block.len() as u64) + 2 + block.len() + n;
-    if out.len() < size {
-        return Writing::Refused(21);
-    }
-    let at = put_netstring(out, block);
-    Writing::Bytes(put(out, at, body))
+    write_parts(block, body, out)
 }

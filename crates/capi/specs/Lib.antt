@@ -1,0 +1,7 @@
+pub mod Answer
+pub mod Read
+pub mod Write
+pub mod Find
+pub mod Setting
+pub mod Spool
+pub mod Respond
