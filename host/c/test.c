@@ -11,15 +11,13 @@ struct bytes {
     size_t len;
 };
 
-static unsigned passed, failed;
+static unsigned faults;
 
 static void check(int holds, const char *what, int line)
 {
-    if (holds) {
-        passed++;
+    if (holds)
         return;
-    }
-    failed++;
+    faults++;
     printf("test.c:%d: %s\n", line, what);
 }
 
@@ -128,7 +126,7 @@ static void test_write(void)
 
 static void test_find(void)
 {
-    struct bytes block = text("A|1|B||A|2|"), site = text("D|33|"), a = text("A"), b = text("B"), d = text("D");
+    struct bytes block = text("A|1|B||A|2|"), a = text("A"), b = text("B");
     uint64_t *answer = list(OY_FIND_NUMBERS);
     CHECK(oy_scgi_find(block.at, block.len, a.at, a.len, answer, 3) == 0);
     CHECK(answer[0] == 1 && answer[1] == 2 && answer[2] == 1);
@@ -138,17 +136,27 @@ static void test_find(void)
     CHECK(answer[0] == 0 && answer[1] == 0 && answer[2] == 0);
     CHECK(oy_scgi_find(a.at, a.len, NULL, 0, answer, 3) == OY_BLOCK);
     CHECK(oy_scgi_find(block.at, block.len, a.at, a.len, NULL, 0) == OY_ROOM);
-    CHECK(oy_setting(block.at, block.len, site.at, site.len, d.at, d.len, answer, 3) == 0);
+    free(block.at);
+    free(a.at);
+    free(b.at);
+    free(answer);
+}
+
+static void test_setting(void)
+{
+    struct bytes facts = text("A|1|"), site = text("D|33|A|2|"), a = text("A"), d = text("D");
+    uint64_t *answer = list(OY_SETTING_NUMBERS);
+    CHECK(oy_setting(facts.at, facts.len, site.at, site.len, d.at, d.len, answer, 3) == 0);
     CHECK(answer[0] == 2 && answer[1] == 2 && answer[2] == 2);
-    CHECK(oy_setting(block.at, block.len, NULL, 0, a.at, a.len, answer, 3) == 0);
+    CHECK(oy_setting(facts.at, facts.len, site.at, site.len, a.at, a.len, answer, 3) == 0);
     CHECK(answer[0] == 1 && answer[1] == 2 && answer[2] == 1);
     CHECK(oy_setting(NULL, 0, NULL, 0, NULL, 0, answer, 3) == 0);
     CHECK(answer[0] == 0 && answer[1] == 0 && answer[2] == 0);
-    CHECK(oy_setting(block.at, block.len, a.at, a.len, a.at, a.len, answer, 3) == OY_BLOCK);
-    free(block.at);
+    CHECK(oy_setting(facts.at, facts.len, a.at, a.len, a.at, a.len, answer, 3) == OY_BLOCK);
+    CHECK(oy_setting(facts.at, facts.len, NULL, 0, a.at, a.len, NULL, 0) == OY_ROOM);
+    free(facts.at);
     free(site.at);
     free(a.at);
-    free(b.at);
     free(d.at);
     free(answer);
 }
@@ -237,16 +245,29 @@ static void test_response(void)
     free(answer);
 }
 
+static void (*const tests[])(void) = {
+    test_read,
+    test_write,
+    test_find,
+    test_setting,
+    test_spool,
+#ifndef OY_WITHOUT_GATEWAY
+    test_gateway,
+#endif
+    test_response,
+};
+
 int main(void)
 {
-    test_read();
-    test_write();
-    test_find();
-    test_spool();
-#ifndef OY_WITHOUT_GATEWAY
-    test_gateway();
-#endif
-    test_response();
+    unsigned passed = 0, failed = 0, i;
+    for (i = 0; i < sizeof tests / sizeof tests[0]; i++) {
+        faults = 0;
+        tests[i]();
+        if (faults == 0)
+            passed++;
+        else
+            failed++;
+    }
     printf("%u passed, %u failed\n", passed, failed);
     return failed == 0 ? 0 : 1;
 }

@@ -1,0 +1,52 @@
+#!/usr/bin/env bash
+# Holds the archive to the C test program and to the tests of the Rust host. Needs a C compiler and cargo. The last line is
+# 'N passed, M failed'. OY_ARCHIVE_DIR names another folder with libcapi.a, which is then not built here.
+set -uo pipefail
+cd "$(dirname "${BASH_SOURCE[0]}")/.." || exit 2
+[ -n "${OY_ARCHIVE_DIR:-}" ] || rt staticlib capi || exit 1
+folder=$(realpath "${OY_ARCHIVE_DIR:-target/staticlib}")
+export OY_ARCHIVE_DIR=$folder
+dir=$(mktemp -d)
+trap 'rm -rf "$dir"' EXIT
+passed=0
+failed=0
+features=(--features gateway)
+defines=()
+if ! nm "$folder/libcapi.a" | grep ' T oy_gateway$' >/dev/null; then
+    echo "the archive has no oy_gateway: its tests are left out"
+    features=()
+    defines=(-DOY_WITHOUT_GATEWAY)
+fi
+
+# the compiler's sanitizers, where it has them
+sanitizers=('-fsanitize=address,undefined' -fno-sanitize-recover=all)
+echo 'int main(void) { return 0; }' >"$dir/empty.c"
+if ! { cc "${sanitizers[@]}" "$dir/empty.c" -o "$dir/empty" && "$dir/empty"; } 2>/dev/null; then
+    echo "this C compiler has no sanitizers: the C test runs without them"
+    sanitizers=()
+fi
+
+# add FILE PATTERN: adds the counts of each line of the file that has the pattern; without such a line that is one failure
+add() {
+    local p f
+    read -r p f < <(grep -E "$2" "$1" | awk '{ for (i = 2; i <= NF; i++) { if ($i ~ /^passed/) p += $(i - 1); if ($i ~ /^failed/) f += $(i - 1) } }
+        END { print p + 0, NR ? f + 0 : 1 }')
+    passed=$((passed + p))
+    failed=$((failed + f))
+}
+
+if cc -std=c89 -Wall -Wextra -Wpedantic -Werror -g -O1 "${sanitizers[@]}" "${defines[@]}" -Iinclude host/c/test.c "$folder/libcapi.a" -o "$dir/test"; then
+    "$dir/test" >"$dir/c.out" 2>&1 || cat "$dir/c.out"
+else
+    : >"$dir/c.out"
+fi
+add "$dir/c.out" '^[0-9]+ passed'
+
+if ! cargo test --offline --quiet --manifest-path host/Cargo.toml "${features[@]}" >"$dir/rust.out" 2>&1; then
+    cat "$dir/rust.out"
+    grep -q '^test result: FAILED' "$dir/rust.out" || echo "test result: not run; 0 passed; 1 failed" >>"$dir/rust.out"
+fi
+add "$dir/rust.out" '^test result:'
+
+echo "$passed passed, $failed failed"
+[ "$failed" -eq 0 ]
