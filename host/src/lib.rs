@@ -6,6 +6,7 @@ pub mod case;
 mod ffi;
 pub mod generate;
 pub mod guarded;
+pub mod meaning;
 pub mod random;
 pub mod recorded;
 pub mod reference;

@@ -2,6 +2,7 @@
 pub mod damage;
 pub mod http;
 pub mod lent;
+pub mod related;
 pub mod response;
 pub mod scgi;
 
