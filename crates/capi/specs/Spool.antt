@@ -24,11 +24,13 @@ endingRefusal cut = 0
 endingRefusal (refusedBy n) = n
 endingRefusal full = 0
 
--- "how many it stored and the ending". "These are endings": the call itself refuses no bytes
+-- "how many it stored and the ending"
+abbrev pub spoolNumbers : Spool → List ℕ
+spoolNumbers s = length (s .lengths) ∷ endingNumber (s .ending) ∷ endingRefusal (s .ending) ∷ []
+
+-- for a list of lengths with so much room. "These are endings": the call refuses no bytes
 abbrev pub spoolGives : List ℕ → ℕ → Outcome (List ℕ)
-spoolGives bytes room =
-    let s = requestsOf bytes room in
-    gives (length (s .lengths) ∷ endingNumber (s .ending) ∷ endingRefusal (s .ending) ∷ [])
+spoolGives bytes room = gives (spoolNumbers (requestsOf bytes room))
 
 -- what it stores in the list of lengths, where the answer's list has room
 abbrev pub lengthsFor : List ℕ → ℕ → List ℕ → Outcome (List ℕ)
