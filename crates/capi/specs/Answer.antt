@@ -21,3 +21,7 @@ returned (gives ns) = 0
 pub record Answered (o : Outcome (List ℕ)) (before after : List ℕ) (r : ℕ) : Type 0 where
   pub number : r ≡ returned (fitting o before)
   pub list : after ≡ outputAfter (fitting o before) before
+
+-- what is due where the list is too short for the numbers, whatever they are: a refusal that comes before, or else 21
+abbrev pub untold : {A : Type 0} → Outcome A → Outcome (List ℕ)
+untold o = then o (λ a. refused 21)

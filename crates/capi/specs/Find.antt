@@ -11,5 +11,5 @@ abbrev pub partNumbers : Option Part → List ℕ
 partNumbers (some p) = 1 ∷ p .start ∷ p .len ∷ []
 partNumbers none = 0 ∷ 0 ∷ 0 ∷ []
 
-abbrev pub findNumbers : List ℕ → List ℕ → Outcome (List ℕ)
-findNumbers block name = then (lookupOf block name) (λ p. gives (partNumbers p))
+abbrev pub findGives : List ℕ → List ℕ → Outcome (List ℕ)
+findGives block name = then (lookupOf block name) (λ p. gives (partNumbers p))

@@ -5,3 +5,4 @@ pub mod Find
 pub mod Setting
 pub mod Spool
 pub mod Respond
+pub mod Claims

@@ -9,5 +9,5 @@ use Rattle.scgi.specs.Read.{Places, readOf}
 abbrev pub placesNumbers : Places → List ℕ
 placesNumbers p = p .blockStart ∷ p .blockLength ∷ p .bodyStart ∷ p .bodyLength ∷ p .used ∷ []
 
-abbrev pub readNumbers : List ℕ → Outcome (List ℕ)
-readNumbers bytes = then (readOf bytes) (λ p. gives (placesNumbers p))
+abbrev pub readGives : List ℕ → Outcome (List ℕ)
+readGives bytes = then (readOf bytes) (λ p. gives (placesNumbers p))

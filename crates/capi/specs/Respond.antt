@@ -20,5 +20,5 @@ abbrev pub answerNumbers : Answer → List ℕ
 answerNumbers a =
     actionNumber (a .action) ∷ a .status ∷ a .locationStart ∷ a .locationLength ∷ a .bodyStart ∷ a .bodyLength ∷ []
 
-abbrev pub responseNumbers : List ℕ → Outcome (List ℕ)
-responseNumbers script = then (responseOf script) (λ a. gives (answerNumbers a))
+abbrev pub responseGives : List ℕ → Outcome (List ℕ)
+responseGives script = then (responseOf script) (λ a. gives (answerNumbers a))

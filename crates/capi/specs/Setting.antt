@@ -13,5 +13,5 @@ heldNumbers (in-second p) = 2 ∷ p .start ∷ p .len ∷ []
 heldNumbers in-neither = 0 ∷ 0 ∷ 0 ∷ []
 
 -- "sought in the connection facts, then in the site settings"
-abbrev pub settingNumbers : List ℕ → List ℕ → List ℕ → Outcome (List ℕ)
-settingNumbers facts site name = then (settingOf facts site name) (λ h. gives (heldNumbers h))
+abbrev pub settingGives : List ℕ → List ℕ → List ℕ → Outcome (List ℕ)
+settingGives facts site name = then (settingOf facts site name) (λ h. gives (heldNumbers h))

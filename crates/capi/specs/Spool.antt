@@ -24,17 +24,19 @@ endingRefusal cut = 0
 endingRefusal (refusedBy n) = n
 endingRefusal full = 0
 
--- "how many it stored and the ending". "These are endings": the call itself refuses no bytes
-abbrev pub spoolNumbers : List ℕ → ℕ → Outcome (List ℕ)
-spoolNumbers bytes room =
-    let s = requestsOf bytes room in
-    gives (length (s .lengths) ∷ endingNumber (s .ending) ∷ endingRefusal (s .ending) ∷ [])
+-- "how many it stored and the ending"
+abbrev pub spoolNumbers : Spool → List ℕ
+spoolNumbers s = length (s .lengths) ∷ endingNumber (s .ending) ∷ endingRefusal (s .ending) ∷ []
+
+-- for a list of lengths with so much room. "These are endings": the call refuses no bytes
+abbrev pub spoolGives : List ℕ → ℕ → Outcome (List ℕ)
+spoolGives bytes room = gives (spoolNumbers (requestsOf bytes room))
 
 -- what it stores in the list of lengths, where the answer's list has room
 abbrev pub lengthsFor : List ℕ → ℕ → List ℕ → Outcome (List ℕ)
-lengthsFor bytes room answer = then (fitting (spoolNumbers bytes room) answer) (λ ns. gives (requestsOf bytes room .lengths))
+lengthsFor bytes room answer = then (fitting (spoolGives bytes room) answer) (λ ns. gives (requestsOf bytes room .lengths))
 
 -- "lengths stored before them stay, unused entries are unchanged"
 pub record SpoolAnswered (bytes lengths lengths′ answer answer′ : List ℕ) (r : ℕ) : Type 0 where
-  pub answers : Answered (spoolNumbers bytes (length lengths)) answer answer′ r
+  pub answers : Answered (spoolGives bytes (length lengths)) answer answer′ r
   pub stored : lengths′ ≡ outputAfter (lengthsFor bytes (length lengths) answer) lengths

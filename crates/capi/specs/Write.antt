@@ -4,26 +4,23 @@ use Prim.Native.Nat.{ℕ}
 use mathlib.Core.Path.{_≡_}
 use mathlib.Core.List.{List, [], _∷_}
 use lib.ListN.{length}
-use Rattle.octets.specs.Outcome.{Outcome, refused, gives, then}
-use Rattle.scgi.specs.Write.{toWrite, writeOf, outputAfter}
+use Rattle.octets.specs.Outcome.{Outcome, gives, then}
+use Rattle.scgi.specs.Write.{writeOf, outputAfter}
 use Rattle.capi.specs.Answer.{fitting, Answered}
 
 -- "reports n"
 abbrev pub countNumbers : List ℕ → List ℕ
 countNumbers w = length w ∷ []
 
-abbrev pub writeNumbers : List ℕ → List ℕ → ℕ → Outcome (List ℕ)
-writeNumbers block body room = then (writeOf block body room) (λ w. gives (countNumbers w))
+-- for an output of `room` bytes
+abbrev pub writeGives : List ℕ → List ℕ → ℕ → Outcome (List ℕ)
+writeGives block body room = then (writeOf block body room) (λ w. gives (countNumbers w))
 
--- what is written to an output of `room` bytes: the writer's bytes, where the answer's list has room for their count
+-- what is written: the writer's bytes, where the answer's list has room for their count
 abbrev pub bytesFor : List ℕ → List ℕ → ℕ → List ℕ → Outcome (List ℕ)
-bytesFor block body room answer = then (fitting (writeNumbers block body room) answer) (λ ns. writeOf block body room)
+bytesFor block body room answer = then (fitting (writeGives block body room) answer) (λ ns. writeOf block body room)
 
 -- "Success writes the first n bytes, reports n, and leaves the rest"
 pub record WriteAnswered (block body out out′ answer answer′ : List ℕ) (r : ℕ) : Type 0 where
-  pub answers : Answered (writeNumbers block body (length out)) answer answer′ r
+  pub answers : Answered (writeGives block body (length out)) answer answer′ r
   pub output : out′ ≡ outputAfter (bytesFor block body (length out) answer) out
-
--- the refusal where the count has no room: the writer's own, or else 21
-abbrev pub untoldNumber : List ℕ → List ℕ → Outcome (List ℕ)
-untoldNumber block body = then (toWrite block body) (λ w. refused 21)

@@ -1,6 +1,6 @@
 // The value of a name in a block.
 ghost use Rattle.capi.specs.Answer.{Answered};
-ghost use Rattle.capi.specs.Find.{findNumbers};
+ghost use Rattle.capi.specs.Find.{findGives};
 use crate::answer::give;
 use scgi::lookup::Place;
 use scgi::lookup::find;
@@ -8,7 +8,7 @@ use scgi::lookup::find;
 // Where the value of a name stands in a block. Gives 1 there or 0 absent, start, length.
 #[no_mangle]
 pub extern "C" fn oy_scgi_find(block: &[u8], name: &[u8], answer: &mut [u64]) -> u64
-    ensures { λ r. ⌜ Answered (findNumbers (now (block .entry)) (now (name .entry))) (now (answer .entry)) (now (answer .exit)) r ⌝ }
+    ensures { λ r. ⌜ Answered (findGives (now (block .entry)) (now (name .entry))) (now (answer .entry)) (now (answer .exit)) r ⌝ }
 {
     let p = find(block, name);
     match p {

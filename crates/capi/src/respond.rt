@@ -1,7 +1,7 @@
 // Script responses.
 ghost use mathlib.Core.Path.{_≡_};
 ghost use Rattle.capi.specs.Answer.{Answered};
-ghost use Rattle.capi.specs.Respond.{actionNumber, responseNumbers};
+ghost use Rattle.capi.specs.Respond.{actionNumber, responseGives};
 use crate::answer::give;
 use response::respond::respond;
 use response::table::Action;
@@ -23,7 +23,7 @@ fn action_number(a: Action) -> u64
 // Location start and length; body start and length.
 #[no_mangle]
 pub extern "C" fn oy_response(script: &[u8], answer: &mut [u64]) -> u64
-    ensures { λ r. ⌜ Answered (responseNumbers (now (script .entry))) (now (answer .entry)) (now (answer .exit)) r ⌝ }
+    ensures { λ r. ⌜ Answered (responseGives (now (script .entry))) (now (answer .entry)) (now (answer .exit)) r ⌝ }
 {
     let r = respond(script);
     let Response::Answer {

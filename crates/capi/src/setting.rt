@@ -1,6 +1,6 @@
 // The value of a name in the connection facts or the site settings.
 ghost use Rattle.capi.specs.Answer.{Answered};
-ghost use Rattle.capi.specs.Setting.{settingNumbers};
+ghost use Rattle.capi.specs.Setting.{settingGives};
 use crate::answer::give;
 use scgi::setting::Where;
 use scgi::setting::find_setting;
@@ -9,7 +9,7 @@ use scgi::setting::find_setting;
 // and length in that block.
 #[no_mangle]
 pub extern "C" fn oy_setting(facts: &[u8], site: &[u8], name: &[u8], answer: &mut [u64]) -> u64
-    ensures { λ r. ⌜ Answered (settingNumbers (now (facts .entry)) (now (site .entry)) (now (name .entry))) (now (answer .entry)) (now (answer .exit)) r ⌝ }
+    ensures { λ r. ⌜ Answered (settingGives (now (facts .entry)) (now (site .entry)) (now (name .entry))) (now (answer .entry)) (now (answer .exit)) r ⌝ }
 {
     let w = find_setting(facts, site, name);
     match w {

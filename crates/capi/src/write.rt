@@ -1,14 +1,15 @@
 // The writer of SCGI requests.
 ghost use mathlib.Core.Path.{_≡_};
-ghost use Rattle.capi.specs.Answer.{returned};
-ghost use Rattle.capi.specs.Write.{untoldNumber, WriteAnswered};
+ghost use Rattle.scgi.specs.Write.{toWrite};
+ghost use Rattle.capi.specs.Answer.{returned, untold};
+ghost use Rattle.capi.specs.Write.{WriteAnswered};
 use crate::answer::give;
 use scgi::write::Writing;
 use scgi::write::write;
 
 // The refusal where the count of bytes has no place in the answer: the writer's own, which an output of no bytes does not hide, or else 21.
-fn untold(block: &[u8], body: &[u8]) -> u64
-    ensures { λ r. ⌜ r ≡ returned (untoldNumber (now (block .entry)) (now (body .entry))) ⌝ }
+fn untold_write(block: &[u8], body: &[u8]) -> u64
+    ensures { λ r. ⌜ r ≡ returned (untold (toWrite (now (block .entry)) (now (body .entry)))) ⌝ }
 {
     let mut none: [u8; 0] = [];
     let w = write(block, body, &mut none);
@@ -29,7 +30,7 @@ pub extern "C" fn oy_scgi_write(
     ensures { λ r. ⌜ WriteAnswered (now (block .entry)) (now (body .entry)) (now (out .entry)) (now (out .exit)) (now (answer .entry)) (now (answer .exit)) r ⌝ }
 {
     if answer.len() < 1 {
-        return untold(block, body);
+        return untold_write(block, body);
     }
     let w = write(block, body, out);
     let Writing::Bytes(n) = w else {

@@ -147,7 +147,10 @@ readNumbers = 1 ∷ 2 ∷ 3 ∷ 4 ∷ 5 ∷ 6 ∷ 7 ∷ 8 ∷ 9 ∷ 10 ∷ []
 abbrev pub writeNumbers : List ℕ
 writeNumbers = 3 ∷ 5 ∷ 6 ∷ 7 ∷ 8 ∷ 9 ∷ 10 ∷ 23 ∷ 21 ∷ []
 
--- no other number is given: "Every refusal returns its number and nothing else"
+-- no other number is given: "Every refusal returns its number and nothing else"; of lookup, "Only a malformed block, either one of two, is refused,
+-- with 5"
 pub record NumbersHold : Type 0 where
   pub reader : (s : List ℕ) (n : ℕ) → readOf s ≡ refused n → oneOf readNumbers n ≡ true
   pub writer : (block body : List ℕ) (room n : ℕ) → writeOf block body room ≡ refused n → oneOf writeNumbers n ≡ true
+  pub lookup : (block name : List ℕ) (n : ℕ) → lookupOf block name ≡ refused n → n ≡ 5
+  pub setting : (first second name : List ℕ) (n : ℕ) → settingOf first second name ≡ refused n → n ≡ 5

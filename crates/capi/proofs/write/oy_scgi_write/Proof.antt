@@ -2,15 +2,15 @@
 -- Assumes nothing.
 use mathlib.Core.Path.{_∙_}
 use borrow.Author.Needs.{needs}
-use Rattle.capi.proofs.Writes.{too-short, write-refused, write-told}
+use Rattle.capi.proofs.Writes.{no-room, write-refused, write-told}
 use Rattle.capi.proofs.write.oy_scgi_write.Statement.{statement}
 use Rattle.capi.proofs.write.oy_scgi_write.Tie as tie
 
-untold-requires : tie.Need-untold-requires
-untold-requires c κs = search needs
+untold-write-requires : tie.Need-untold-write-requires
+untold-write-requires c κs = search needs
 
 returns : tie.Need-returns
-returns c = too-short _ _ _ _ (c .before .if1 .taken) _ (c .untold .ensures)
+returns c = no-room _ _ _ _ (c .before .if1 .taken) _ (c .untold-write .ensures)
 
 write-requires : tie.Need-write-requires
 write-requires c κs = search needs
@@ -65,7 +65,7 @@ pub oy-scgi-write-spec : {M : Type 1} → statement M
 oy-scgi-write-spec =
     tie.close
     (tie.spec
-    untold-requires
+    untold-write-requires
     returns
     write-requires
     enum-known-w
