@@ -11,3 +11,4 @@ pub mod random;
 pub mod recorded;
 pub mod reference;
 pub mod refusal;
+pub mod samples;
