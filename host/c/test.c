@@ -74,10 +74,13 @@ static uint64_t *list(size_t len)
 static const char *const example =
     "70:CONTENT_LENGTH|27|SCGI|1|REQUEST_METHOD|POST|REQUEST_URI|/deepthought|,What is the answer to life?";
 
-static uint64_t read_text(const char *from, uint64_t *answer, size_t answer_len)
+/* A call over one piece of memory: the reader, or that of script responses. */
+typedef uint64_t one_input(const uint8_t *, size_t, uint64_t *, size_t);
+
+static uint64_t on_text(one_input *call, const char *from, uint64_t *answer, size_t answer_len)
 {
     struct bytes bytes = text(from);
-    uint64_t code = oy_scgi_read(bytes.at, bytes.len, answer, answer_len);
+    uint64_t code = call(bytes.at, bytes.len, answer, answer_len);
     free(bytes.at);
     return code;
 }
@@ -85,19 +88,19 @@ static uint64_t read_text(const char *from, uint64_t *answer, size_t answer_len)
 static void test_read(void)
 {
     uint64_t *answer = list(OY_READ_NUMBERS);
-    CHECK(read_text("", answer, 5) == OY_CUT);
-    CHECK(read_text("0", answer, 5) == OY_CUT);
-    CHECK(read_text("05", answer, 5) == OY_LENGTH);
-    CHECK(read_text(":", answer, 5) == OY_LENGTH);
-    CHECK(read_text("16385", answer, 5) == OY_BLOCK_LONG);
-    CHECK(read_text("0:x", answer, 5) == OY_COMMA);
-    CHECK(read_text("1:|,", answer, 5) == OY_BLOCK);
-    CHECK(read_text("0:,", answer, 5) == OY_FIRST);
+    CHECK(on_text(oy_scgi_read, "", answer, 5) == OY_CUT);
+    CHECK(on_text(oy_scgi_read, "0", answer, 5) == OY_CUT);
+    CHECK(on_text(oy_scgi_read, "05", answer, 5) == OY_LENGTH);
+    CHECK(on_text(oy_scgi_read, ":", answer, 5) == OY_LENGTH);
+    CHECK(on_text(oy_scgi_read, "16385", answer, 5) == OY_BLOCK_LONG);
+    CHECK(on_text(oy_scgi_read, "0:x", answer, 5) == OY_COMMA);
+    CHECK(on_text(oy_scgi_read, "1:|,", answer, 5) == OY_BLOCK);
+    CHECK(on_text(oy_scgi_read, "0:,", answer, 5) == OY_FIRST);
     CHECK(answer[0] == 77 && answer[4] == 77);
-    CHECK(read_text(example, answer, 4) == OY_ROOM);
+    CHECK(on_text(oy_scgi_read, example, answer, 4) == OY_ROOM);
     CHECK(answer[0] == 77 && answer[3] == 77);
-    CHECK(read_text(example, NULL, 0) == OY_ROOM);
-    CHECK(read_text(example, answer, 5) == 0);
+    CHECK(on_text(oy_scgi_read, example, NULL, 0) == OY_ROOM);
+    CHECK(on_text(oy_scgi_read, example, answer, 5) == 0);
     CHECK(answer[0] == 3 && answer[1] == 70 && answer[2] == 74 && answer[3] == 27 && answer[4] == 101);
     free(answer);
 }
@@ -220,26 +223,18 @@ static void test_gateway(void)
 }
 #endif
 
-static uint64_t respond(const char *from, uint64_t *answer, size_t answer_len)
-{
-    struct bytes script = text(from);
-    uint64_t code = oy_response(script.at, script.len, answer, answer_len);
-    free(script.at);
-    return code;
-}
-
 static void test_response(void)
 {
     uint64_t *answer = list(OY_RESPONSE_NUMBERS);
-    CHECK(respond("", answer, 6) == OY_RESPONSE);
-    CHECK(respond("\n", answer, 6) == OY_CONTRADICTION);
-    CHECK(respond("Location: /x\n\n", answer, 5) == OY_ROOM);
+    CHECK(on_text(oy_response, "", answer, 6) == OY_RESPONSE);
+    CHECK(on_text(oy_response, "\n", answer, 6) == OY_CONTRADICTION);
+    CHECK(on_text(oy_response, "Location: /x\n\n", answer, 5) == OY_ROOM);
     CHECK(answer[0] == 77 && answer[5] == 77);
-    CHECK(respond("Location: /x\n\n", answer, 6) == 0);
+    CHECK(on_text(oy_response, "Location: /x\n\n", answer, 6) == 0);
     CHECK(answer[0] == OY_SERVE && answer[1] == 0 && answer[2] == 10 && answer[3] == 2 && answer[4] == 14 && answer[5] == 0);
-    CHECK(respond("Location: a:b\n\n", answer, 6) == 0);
+    CHECK(on_text(oy_response, "Location: a:b\n\n", answer, 6) == 0);
     CHECK(answer[0] == OY_REDIRECT && answer[1] == 302);
-    CHECK(respond("Status: 200 OK\r\nContent-Type: text/plain\r\n\r\n42", answer, 6) == 0);
+    CHECK(on_text(oy_response, "Status: 200 OK\r\nContent-Type: text/plain\r\n\r\n42", answer, 6) == 0);
     CHECK(answer[0] == OY_DOCUMENT && answer[1] == 200 && answer[2] == 0 && answer[3] == 0);
     CHECK(answer[4] == 44 && answer[5] == 2);
     free(answer);

@@ -12,3 +12,4 @@ pub mod recorded;
 pub mod reference;
 pub mod refusal;
 pub mod samples;
+pub mod text;

@@ -4,6 +4,7 @@ use crate::case::{before, numbers_before, run, Call, Case, Room};
 use crate::generate::{block, pair};
 use crate::recorded;
 use crate::refusal::{MAX_BODY, MAX_FIELDS, MAX_HEADERS};
+use crate::text;
 use std::hint::black_box;
 
 /// Cases of one call that are run one after the other.
@@ -44,11 +45,11 @@ impl Sample {
 const SIZES: [(&str, usize, usize); 4] =
     [("10 fields, about 500 bytes", 10, 0), ("64 fields", MAX_FIELDS, 0), ("128 headers", MAX_HEADERS, 0), ("1 MiB body", 10, MAX_BODY)];
 
-/// A block with this many headers, about 45 bytes each.
+/// A block with this many headers, about 59 bytes each.
 fn scgi_block(headers: usize, body_len: usize) -> Vec<u8> {
     let mut pairs = vec![pair("CONTENT_LENGTH", body_len.to_string().as_bytes()), pair("SCGI", b"1")];
     for at in 2..headers {
-        pairs.push(pair(&format!("HTTP_X_HEADER_NUMBER_{at}"), format!("value of the header {at}").as_bytes()));
+        pairs.push(pair(&format!("HTTP_X_HEADER_NUMBER_{at}"), format!("value of the request's header no. {at}").as_bytes()));
     }
     block(&pairs)
 }
@@ -62,9 +63,9 @@ fn scgi_request(headers: usize, body_len: usize) -> Vec<u8> {
     bytes
 }
 
-/// Field lines, about 45 bytes each with their ends.
+/// Field lines, about 54 bytes each with their ends.
 fn field_lines(count: usize) -> String {
-    (0..count).map(|at| format!("X-Field-Number-{at}: the value of the field {at}\r\n")).collect()
+    (0..count).map(|at| format!("X-Field-Number-{at}: value of the request's field no. {at}\r\n")).collect()
 }
 
 fn http_case(fields: usize, body_len: usize) -> Case {
@@ -105,11 +106,10 @@ fn recorded_writes() -> Vec<Case> {
 }
 
 fn spool_samples() -> Vec<Sample> {
-    let example: &[u8] = b"70:CONTENT_LENGTH\027\0SCGI\01\0REQUEST_METHOD\0POST\0REQUEST_URI\0/deepthought\0,What is the answer to life?";
     let joined: Vec<u8> = recorded_cases(Call::Read).iter().flat_map(|case| case.inputs[0].clone()).collect();
     vec![
         Sample::new(Call::Spool, "recorded, end to end", vec![Case::new(Call::Spool, vec![joined], 100)]),
-        Sample::new(Call::Spool, "1,000 of 101 bytes", vec![Case::new(Call::Spool, vec![example.repeat(1000)], 1000)]),
+        Sample::new(Call::Spool, "1,000 of 101 bytes", vec![Case::new(Call::Spool, vec![text::bytes(text::EXAMPLE).repeat(1000)], 1000)]),
     ]
 }
 

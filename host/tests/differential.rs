@@ -58,22 +58,22 @@ fn check(call: Call, count: usize, numbers: &[usize]) {
 
 #[test]
 fn read() {
-    check(Call::Read, 60_000, &[1, 2, 3, 4, 5, 6, 7, 8, 9, 10, 21]);
+    check(Call::Read, 200_000, &[1, 2, 3, 4, 5, 6, 7, 8, 9, 10, 21]);
 }
 
 #[test]
 fn write() {
-    check(Call::Write, 50_000, &[3, 5, 6, 7, 8, 9, 10, 21, 23]);
+    check(Call::Write, 150_000, &[3, 5, 6, 7, 8, 9, 10, 21, 23]);
 }
 
 #[test]
 fn find() {
-    check(Call::Find, 40_000, &[5, 21]);
+    check(Call::Find, 100_000, &[5, 21]);
 }
 
 #[test]
 fn setting() {
-    check(Call::Setting, 40_000, &[5, 21]);
+    check(Call::Setting, 100_000, &[5, 21]);
 }
 
 /// A spool's endings are no refusals of the call: they stand in the answer, with the number of the request that was refused.
@@ -82,7 +82,7 @@ fn spool() {
     let mut given = Tally::new("spool");
     let mut refused = Tally::new("spool, refused requests");
     let mut endings = [0; 4];
-    compare_many(Call::Spool, 30_000, |observed| {
+    compare_many(Call::Spool, 100_000, |observed| {
         given.count(observed.code);
         if observed.code == 0 {
             endings[observed.answer[1] as usize] += 1;
@@ -101,14 +101,14 @@ fn spool() {
 #[test]
 #[cfg(feature = "gateway")]
 fn gateway() {
-    check(Call::Gateway, 60_000, &[1, 9, 11, 12, 13, 14, 15, 16, 17, 18, 19, 20, 21]);
+    check(Call::Gateway, 200_000, &[1, 9, 11, 12, 13, 14, 15, 16, 17, 18, 19, 20, 21]);
 }
 
 #[test]
 fn response() {
     let mut tally = Tally::new("response");
     let mut actions = [0; 5];
-    compare_many(Call::Response, 60_000, |observed| {
+    compare_many(Call::Response, 200_000, |observed| {
         tally.count(observed.code);
         if observed.code == 0 {
             actions[observed.answer[0] as usize] += 1;

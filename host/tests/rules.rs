@@ -1,31 +1,31 @@
 //! The bytes that the rules name, on both sides.
 use oyinkafubo_host::answers::{Places, WHOLE};
 use oyinkafubo_host::case::sides;
+use oyinkafubo_host::text::{bytes, EXAMPLE};
 
-const EXAMPLE: &[u8] = b"70:CONTENT_LENGTH\027\0SCGI\01\0REQUEST_METHOD\0POST\0REQUEST_URI\0/deepthought\0,What is the answer to life?";
 const EXAMPLE_PLACES: Places = Places { block_start: 3, block_len: 70, body_start: 74, body_len: 27, used: 101 };
 
 #[test]
 fn refused_by_the_reader() {
-    let cases: [(&[u8], u8); 8] =
-        [(b"", 1), (b"0", 1), (b"05", 2), (b":", 2), (b"16385", 3), (b"0:,", 8), (b"0:x", 4), (&EXAMPLE[..100], 1)];
+    let cases = [("", 1), ("0", 1), ("05", 2), (":", 2), ("16385", 3), ("0:,", 8), ("0:x", 4), (&EXAMPLE[..100], 1)];
     for (name, side) in sides() {
-        for (bytes, number) in cases {
-            assert_eq!(side.read(bytes), Err(number), "{name}: {}", String::from_utf8_lossy(bytes));
+        for (text, number) in cases {
+            assert_eq!(side.read(&bytes(text)), Err(number), "{name}: {text}");
         }
     }
 }
 
 #[test]
 fn the_example_of_the_scgi_text() {
-    let followed = [EXAMPLE, b"x"].concat();
+    let example = bytes(EXAMPLE);
+    let followed = [&example[..], b"x"].concat();
     for (name, side) in sides() {
-        assert_eq!(side.read(EXAMPLE), Ok(EXAMPLE_PLACES), "{name}");
+        assert_eq!(side.read(&example), Ok(EXAMPLE_PLACES), "{name}");
         assert_eq!(side.read(&followed), Ok(EXAMPLE_PLACES), "{name}, followed by a byte");
-        let (block, body) = (&EXAMPLE[3..73], &EXAMPLE[74..]);
+        let (block, body) = (&example[3..73], &example[74..]);
         let mut out = [0; 101];
         assert_eq!(side.write(block, body, &mut out).map(|written| written.bytes), Ok(101), "{name}");
-        assert_eq!(out, EXAMPLE, "{name}");
+        assert_eq!(&out[..], example, "{name}");
     }
 }
 
@@ -33,7 +33,7 @@ fn the_example_of_the_scgi_text() {
 fn the_example_as_a_spool() {
     for (name, side) in sides() {
         let mut lengths = [7; 3];
-        let end = side.spool(EXAMPLE, &mut lengths).expect("a spool has an ending");
+        let end = side.spool(&bytes(EXAMPLE), &mut lengths).expect("a spool has an ending");
         assert_eq!((end.stored, end.ending, end.number, lengths), (1, WHOLE, 0, [101, 7, 7]), "{name}");
         let end = side.spool(b"", &mut []).expect("a spool has an ending");
         assert_eq!((end.stored, end.ending, end.number), (0, WHOLE, 0), "{name}");
@@ -43,35 +43,37 @@ fn the_example_as_a_spool() {
 /// Of equal names the first counts; an empty value is there; an absent name is not, and its part is empty.
 #[test]
 fn lookup() {
-    let block = b"A\01\0B\0\0A\02\0";
+    let (block, site) = (bytes("A|1|B||A|2|"), bytes("A|9|D|3|"));
     for (name, side) in sides() {
-        assert_eq!(side.find(block, b"A").map(|found| found.numbers()), Ok([1, 2, 1]), "{name}");
-        assert_eq!(side.find(block, b"B").map(|found| found.numbers()), Ok([1, 6, 0]), "{name}");
-        assert_eq!(side.find(block, b"C").map(|found| (found.there, found.len)), Ok((0, 0)), "{name}");
+        let find = |name: &[u8]| side.find(&block, name).map(|found| found.numbers());
+        assert_eq!(find(b"A"), Ok([1, 2, 1]), "{name}");
+        assert_eq!(find(b"B"), Ok([1, 6, 0]), "{name}");
+        assert_eq!(find(b"C"), Ok([0, 0, 0]), "{name}");
         assert_eq!(side.find(b"A\0", b"A").map(|found| found.there), Err(5), "{name}");
-        let site = b"A\09\0D\03\0";
-        assert_eq!(side.setting(block, site, b"A").map(|found| found.numbers()), Ok([1, 2, 1]), "{name}");
-        assert_eq!(side.setting(block, site, b"D").map(|found| found.numbers()), Ok([2, 6, 1]), "{name}");
-        assert_eq!(side.setting(block, b"\0", b"A").map(|found| found.origin), Err(5), "{name}");
+        let setting = |name: &[u8]| side.setting(&block, &site, name).map(|found| found.numbers());
+        assert_eq!(setting(b"A"), Ok([1, 2, 1]), "{name}");
+        assert_eq!(setting(b"D"), Ok([2, 6, 1]), "{name}");
+        assert_eq!(setting(b"E"), Ok([0, 0, 0]), "{name}");
+        assert_eq!(side.setting(&block, b"\0", b"A").map(|found| found.origin), Err(5), "{name}");
     }
 }
 
 #[test]
 fn responses() {
-    let cases: [(&[u8], Result<[u64; 6], u8>); 8] = [
-        (b"Status: 200 OK\r\nContent-Type: text/plain\r\n\r\n42", Ok([4, 200, 0, 0, 44, 2])),
-        (b"Location: /x\n\n", Ok([1, 0, 10, 2, 14, 0])),
-        (b"Location: http://q/x\n\n", Ok([2, 302, 10, 10, 22, 0])),
-        (b"Location: a:b\nStatus: 301\nContent-Type: t\n\nx", Ok([3, 301, 10, 3, 43, 1])),
-        (b"Location: /x\nX: y\n\n", Err(25)),
-        (b"Location: /x\n\nbody", Err(25)),
-        (b"\n", Err(25)),
-        (b"HTTP/1.1 200 OK\n\n", Err(24)),
+    let cases = [
+        ("Status: 200 OK\r\nContent-Type: text/plain\r\n\r\n42", Ok([4, 200, 0, 0, 44, 2])),
+        ("Location: /x\n\n", Ok([1, 0, 10, 2, 14, 0])),
+        ("Location: http://q/x\n\n", Ok([2, 302, 10, 10, 22, 0])),
+        ("Location: a:b\nStatus: 301\nContent-Type: t\n\nx", Ok([3, 301, 10, 3, 43, 1])),
+        ("Location: /x\nX: y\n\n", Err(25)),
+        ("Location: /x\n\nbody", Err(25)),
+        ("\n", Err(25)),
+        ("HTTP/1.1 200 OK\n\n", Err(24)),
     ];
     for (name, side) in sides() {
-        for (script, expected) in &cases {
-            let given = side.response(script).map(|action| action.numbers());
-            assert_eq!(given, *expected, "{name}: {}", String::from_utf8_lossy(script));
+        for (script, expected) in cases {
+            let given = side.response(script.as_bytes()).map(|action| action.numbers());
+            assert_eq!(given, expected, "{name}: {script}");
         }
     }
 }
@@ -81,6 +83,7 @@ mod gateway {
     use oyinkafubo_host::calls::{Blocks, Calls};
     use oyinkafubo_host::case::sides;
     use oyinkafubo_host::recorded;
+    use oyinkafubo_host::text::bytes;
 
     const WHOLE_OUTPUT: &str = "267:CONTENT_LENGTH|0|SCGI|1|GATEWAY_INTERFACE|CGI/1.1|PATH_INFO|/7|QUERY_STRING|x=1|REMOTE_ADDR|10.0.0.9|\
         REQUEST_METHOD|GET|REQUEST_URI|/jobs/7?x=1|SCRIPT_NAME|/jobs|SERVER_NAME|q.example|SERVER_PORT|80|SERVER_PROTOCOL|HTTP/1.1|\
@@ -101,7 +104,7 @@ mod gateway {
         for (name, side) in sides() {
             let (given, out) = forward(side, http);
             assert_eq!(given, Ok([272, 6, 4, 45]), "{name}");
-            assert_eq!(&out[..272], WHOLE_OUTPUT.replace('|', "\0").as_bytes(), "{name}");
+            assert_eq!(&out[..272], bytes(WHOLE_OUTPUT), "{name}");
             assert!(out[272..].iter().all(|&byte| byte == 0), "{name}: bytes past the output");
         }
     }

@@ -2,30 +2,36 @@
 use oyinkafubo_host::calls::{Archive, Calls};
 use oyinkafubo_host::reference::Reference;
 use oyinkafubo_host::samples::{self, Sample};
-use std::time::Instant;
 
 const ROUNDS: usize = 21;
-/// How long one side of a round takes about, in seconds.
-const ROUND_SECONDS: f64 = 0.01;
+/// How long one side of a round takes at least, in microseconds.
+const ROUND: i64 = 10_000;
+
+extern "C" {
+    /// The C library's: the processor time of this process, in microseconds on every POSIX system. Unlike the time of the wall it does not
+    /// count other processes.
+    fn clock() -> i64;
+}
+
+/// Processor time of the sample run `times` times on a side, in microseconds.
+fn microseconds(side: &dyn Calls, sample: &Sample, times: usize) -> i64 {
+    let start = unsafe { clock() };
+    sample.repeat(side, times);
+    unsafe { clock() - start }
+}
 
 /// Nanoseconds for one call, over all cases of the sample.
 fn nanoseconds(side: &dyn Calls, sample: &Sample, times: usize) -> f64 {
-    let start = Instant::now();
-    sample.repeat(side, times);
-    start.elapsed().as_nanos() as f64 / (times * sample.cases.len()) as f64
+    microseconds(side, sample, times) as f64 * 1000.0 / (times * sample.cases.len()) as f64
 }
 
 /// How often the sample has to be run for a round.
 fn times_of(sample: &Sample) -> usize {
     let mut times = 1;
-    loop {
-        let start = Instant::now();
-        sample.repeat(&Reference, times);
-        if start.elapsed().as_secs_f64() > ROUND_SECONDS {
-            return times;
-        }
+    while microseconds(&Reference, sample, times) < ROUND {
         times *= 2;
     }
+    times
 }
 
 fn median(values: &mut [f64]) -> f64 {

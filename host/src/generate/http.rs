@@ -106,7 +106,7 @@ fn add_body(random: &mut Random, draft: &mut Draft) {
         1..=40 => random.below(3000),
         _ => random.small(),
     };
-    draft.body = vec![random.next() as u8; len];
+    draft.body = vec![random.number() as u8; len];
     let zeros = "0".repeat(random.pick(&[0, 0, 0, 1, 25]));
     let name = random.pick(&["Content-Length", "content-length", "CONTENT-LENGTH"]);
     draft.insert(random, format!("{name}: {zeros}{len}").as_bytes());

@@ -76,7 +76,7 @@ fn body_len(random: &mut Random) -> usize {
 pub fn request(random: &mut Random) -> Vec<u8> {
     let len = body_len(random);
     let mut bytes = netstring(&block(&headers(random, len)));
-    let fill = random.next() as u8;
+    let fill = random.number() as u8;
     bytes.resize(bytes.len() + len, fill);
     bytes
 }
@@ -234,7 +234,7 @@ pub fn write_case(random: &mut Random) -> Case {
     if random.chance(8) {
         body_len = random.around(body_len);
     }
-    let body = vec![random.next() as u8; body_len];
+    let body = vec![random.number() as u8; body_len];
     let exact = netstring(&bytes).len() + body_len;
     let room = room(random, exact);
     Case::new(Call::Write, vec![bytes, body], room)

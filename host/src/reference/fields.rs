@@ -35,6 +35,8 @@ impl<'a> Field<'a> {
 /// The fields of a request.
 pub struct Fields<'a> {
     pub list: Vec<Field<'a>>,
+    /// For each field the place of the first one with its name, letter case aside.
+    pub first: Vec<usize>,
 }
 
 impl<'a> Fields<'a> {
@@ -46,7 +48,10 @@ impl<'a> Fields<'a> {
         if list.len() > MAX_FIELDS {
             return Err(FIELD);
         }
-        Ok(Fields { list })
+        let same_name = |a: &Field, b: &Field| a.name.eq_ignore_ascii_case(b.name);
+        let first_of = |(at, field)| list[..at].iter().position(|earlier| same_name(earlier, field)).unwrap_or(at);
+        let first = list.iter().enumerate().map(first_of).collect();
+        Ok(Fields { list, first })
     }
 
     /// The values of a field name, letter case aside.

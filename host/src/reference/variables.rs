@@ -1,6 +1,6 @@
 //! The variables of a gateway request as a block.
 use super::bytes::Digits;
-use super::fields::{Field, Fields};
+use super::fields::Fields;
 use super::head::RequestLine;
 use super::lent::Lent;
 use super::target::Target;
@@ -83,14 +83,20 @@ impl Variables<'_, '_> {
         put_variable(sink, b"SERVER_SOFTWARE", self.lent.server_software);
     }
 
-    /// One variable for each passed field name, ordered by first appearance.
+    /// One variable for each passed field name, ordered by first appearance: the values of all fields with that name, joined.
     fn put_fields(&self, sink: &mut impl Sink) {
-        let list = &self.fields.list;
+        let Fields { list, first } = self.fields;
         for (at, field) in list.iter().enumerate() {
-            let is_first = !list[..at].iter().any(|earlier| same_name(earlier, field));
-            if is_first && !NOT_PASSED.iter().any(|name| field.is(name)) {
-                put_field(sink, &list[at..]);
+            if first[at] != at || NOT_PASSED.iter().any(|name| field.is(name)) {
+                continue;
             }
+            put_field_name(sink, field.name);
+            sink.put(field.value);
+            for (later, _) in list.iter().zip(first).skip(at + 1).filter(|(_, first)| **first == at) {
+                sink.put(b", ");
+                sink.put(later.value);
+            }
+            sink.put(b"\0");
         }
     }
 }
@@ -102,22 +108,10 @@ fn put_variable(sink: &mut impl Sink, name: &[u8], value: &[u8]) {
     sink.put(b"\0");
 }
 
-/// The variable of the first field's name: the values of all fields with that name, joined.
-fn put_field(sink: &mut impl Sink, fields: &[Field]) {
-    let (first, later) = (&fields[0], &fields[1..]);
+fn put_field_name(sink: &mut impl Sink, name: &[u8]) {
     sink.put(b"HTTP_");
-    for &byte in first.name {
+    for &byte in name {
         sink.put(&[if byte == b'-' { b'_' } else { byte.to_ascii_uppercase() }]);
     }
     sink.put(b"\0");
-    sink.put(first.value);
-    for field in later.iter().filter(|field| same_name(field, first)) {
-        sink.put(b", ");
-        sink.put(field.value);
-    }
-    sink.put(b"\0");
-}
-
-fn same_name(a: &Field, b: &Field) -> bool {
-    a.name.eq_ignore_ascii_case(b.name)
 }
