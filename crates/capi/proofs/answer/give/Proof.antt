@@ -17,7 +17,7 @@ abbrev μ-loop : tie.MeasureT-loop
 μ-loop answer₀ numbers i₀ answer i = length numbers - i
 
 returns : tie.Need-returns Inv-loop μ-loop
-returns c = too-short _ _ (c .if1 .taken)
+returns c = too-short _ _ (omega arith)
 
 loop-holds : tie.Need-loop-holds Inv-loop μ-loop
 loop-holds c = (search needs, refl, paste-zero (c .before .args .answer .now) 0 (c .before .args .numbers .now))
@@ -56,7 +56,7 @@ returns-2 : tie.Need-returns-2 Inv-loop μ-loop
 returns-2 c =
     let l = c .before in
     let e : l .loop .i ≡ length (l .before .before .args .numbers .now) = omega arith in
-    stored _ _ (l .before .if1 .left) _ (l .loop .inv .2 ∙ rw e)
+    stored _ _ (omega arith) _ (l .loop .inv .2 ∙ rw e)
 
 pub give-spec : {M : Type 1} → statement M
 give-spec =

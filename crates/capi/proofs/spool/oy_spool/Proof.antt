@@ -1,12 +1,13 @@
 -- `capi::spool::oy_spool` meets its contract.
 -- Assumes nothing.
+use native.Mathlib.Omega.{arith}
 use borrow.Author.Needs.{needs}
 use Rattle.capi.proofs.Spools.{too-short, told}
 use Rattle.capi.proofs.spool.oy_spool.Statement.{statement}
 use Rattle.capi.proofs.spool.oy_spool.Tie as tie
 
 returns : tie.Need-returns
-returns c = too-short _ _ _ (c .if1 .taken)
+returns c = too-short _ _ _ (omega arith)
 
 spool-requires : tie.Need-spool-requires
 spool-requires c κs = search needs
@@ -35,7 +36,7 @@ returns-2 c =
     let f = g .before .before .before in
     let k = f .before in
     let s = k .before .before .before in
-    told _ _ _ (s .before .before .if1 .left) _ _ _ (s .spool .ensures) _ _ _ (k .ending-number .ensures) (f .ending-refusal .ensures) (g .give .ensures)
+    told _ _ _ (omega arith) _ _ _ (s .spool .ensures) _ _ _ (k .ending-number .ensures) (f .ending-refusal .ensures) (g .give .ensures)
 
 pub oy-spool-spec : {M : Type 1} → statement M
 oy-spool-spec =

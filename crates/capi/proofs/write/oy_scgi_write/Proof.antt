@@ -1,6 +1,7 @@
 -- `capi::write::oy_scgi_write` meets its contract.
 -- Assumes nothing.
 use mathlib.Core.Path.{_∙_}
+use native.Mathlib.Omega.{arith}
 use borrow.Author.Needs.{needs}
 use Rattle.capi.proofs.Writes.{no-room, write-refused, write-told}
 use Rattle.capi.proofs.write.oy_scgi_write.Statement.{statement}
@@ -10,7 +11,7 @@ untold-write-requires : tie.Need-untold-write-requires
 untold-write-requires c κs = search needs
 
 returns : tie.Need-returns
-returns c = no-room _ _ _ _ (c .before .if1 .taken) _ (c .untold-write .ensures)
+returns c = no-room _ _ _ _ (omega arith) _ (c .untold-write .ensures)
 
 write-requires : tie.Need-write-requires
 write-requires c κs = search needs
@@ -59,7 +60,7 @@ returns-4 c =
     let g = c .before .before in
     let m = g .before .before .before .before in
     let w = m .before .before .before .before in
-    write-told _ _ _ _ _ (w .write .ensures) _ (w .before .before .if1 .left) _ (m .w .given .1) _ _ (g .give .ensures)
+    write-told _ _ _ _ _ (w .write .ensures) _ (omega arith) _ (m .w .given .1) _ _ (g .give .ensures)
 
 pub oy-scgi-write-spec : {M : Type 1} → statement M
 oy-scgi-write-spec =
