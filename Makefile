@@ -28,9 +28,12 @@ programs:
 spool:
 	rt check spool
 
+# until the archive has oy_gateway, the example is left out and make run fails
 example: archive
-	mkdir -p $(dir $(FRONT))
-	$(CC) $(CFLAGS) $(WARNINGS) -Iinclude examples/front.c $(ARCHIVE) -o $(FRONT)
+	@mkdir -p $(dir $(FRONT))
+	@if nm $(ARCHIVE) | grep ' T oy_gateway$$' >/dev/null; \
+	then $(CC) $(CFLAGS) $(WARNINGS) -Iinclude examples/front.c $(ARCHIVE) -o $(FRONT); \
+	else echo 'the archive has no oy_gateway: the example front end is left out'; fi
 
 run: example spool
 	$(FRONT)
@@ -55,7 +58,7 @@ install: all
 	sed -e 's|@PREFIX@|$(PREFIX)|' -e 's|@VERSION@|$(VERSION)|' include/oyinkafubo.pc.in >$(TO)/lib/pkgconfig/oyinkafubo.pc
 	chmod 644 $(TO)/lib/pkgconfig/oyinkafubo.pc
 	install -m 755 target/bin/spool $(TO)/bin/oyinkafubo-spool
-	install -m 755 $(FRONT) $(TO)/bin/oyinkafubo-front
+	if [ -x $(FRONT) ]; then install -m 755 $(FRONT) $(TO)/bin/oyinkafubo-front; fi
 
 uninstall:
 	rm -f $(TO)/include/oyinkafubo.h $(TO)/lib/liboyinkafubo.a $(TO)/lib/pkgconfig/oyinkafubo.pc

@@ -351,6 +351,9 @@ pub fn http_input(random: &mut Random, mounts: &[Pair]) -> Vec<u8> {
         _ => {}
     }
     let mut bytes = draft.bytes();
+    if bytes.len() >= MAX_HEAD && random.chance(30) {
+        bytes.truncate(random.around(MAX_HEAD));
+    }
     match random.below(20) {
         0 => bytes.truncate(random.below(bytes.len())),
         1..=3 if bytes.len() < 10_000 => damage(random, &mut bytes),
