@@ -18,14 +18,6 @@ if ! nm "$folder/libcapi.a" | grep ' T oy_gateway$' >/dev/null; then
     defines=(-DOY_WITHOUT_GATEWAY)
 fi
 
-# the compiler's sanitizers, where it has them
-sanitizers=('-fsanitize=address,undefined' -fno-sanitize-recover=all)
-echo 'int main(void) { return 0; }' >"$dir/empty.c"
-if ! { cc "${sanitizers[@]}" "$dir/empty.c" -o "$dir/empty" && "$dir/empty"; } 2>/dev/null; then
-    echo "this C compiler has no sanitizers: the C test runs without them"
-    sanitizers=()
-fi
-
 # add FILE PATTERN: adds the counts of each line of the file that has the pattern; without such a line that is one failure
 add() {
     local p f
@@ -35,17 +27,35 @@ add() {
     failed=$((failed + f))
 }
 
-if cc -std=c89 -Wall -Wextra -Wpedantic -Werror -g -O1 "${sanitizers[@]}" "${defines[@]}" -Iinclude host/c/test.c "$folder/libcapi.a" -o "$dir/test"; then
-    "$dir/test" >"$dir/c.out" 2>&1 || cat "$dir/c.out"
-else
+# c_test NAME COMMAND..: builds the C test with $flags and runs it under the command
+c_test() {
+    local name=$1
+    shift
     : >"$dir/c.out"
+    if cc -std=c89 -Wall -Wextra -Wpedantic -Werror -g -O1 "${flags[@]}" "${defines[@]}" -Iinclude host/c/test.c "$folder/libcapi.a" -o "$dir/test"; then
+        "$@" "$dir/test" >"$dir/c.out" 2>&1 || { cat "$dir/c.out"; echo "0 passed, 1 failed" >>"$dir/c.out"; }
+    fi
+    echo "C test, $name: $(tail -n 1 "$dir/c.out")"
+    add "$dir/c.out" '^[0-9]+ passed'
+}
+
+# the sanitizers see what the test and the C library do; valgrind also sees each access of the archive
+flags=('-fsanitize=address,undefined' -fno-sanitize-recover=all)
+echo 'int main(void) { return 0; }' >"$dir/empty.c"
+if cc "${flags[@]}" "$dir/empty.c" -o "$dir/empty" 2>/dev/null && "$dir/empty"; then
+    c_test "with sanitizers" env
 fi
-add "$dir/c.out" '^[0-9]+ passed'
+flags=()
+c_test "plain" env
+if command -v valgrind >/dev/null; then
+    c_test "under valgrind" valgrind -q --error-exitcode=1 --leak-check=full
+fi
 
 if ! cargo test --offline --quiet --manifest-path host/Cargo.toml "${features[@]}" >"$dir/rust.out" 2>&1; then
     cat "$dir/rust.out"
     grep -q '^test result: FAILED' "$dir/rust.out" || echo "test result: not run; 0 passed; 1 failed" >>"$dir/rust.out"
 fi
+echo "Rust host: $(grep -c '^test result:' "$dir/rust.out") test programs"
 add "$dir/rust.out" '^test result:'
 
 echo "$passed passed, $failed failed"
