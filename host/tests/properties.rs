@@ -107,7 +107,7 @@ fn whole_before(requests: &[Vec<u8>], cut: usize) -> (Vec<u64>, usize) {
 mod gateway {
     use super::{parts, whole_before};
     use oyinkafubo_host::calls::{Archive, Blocks, Calls};
-    use oyinkafubo_host::generate::{http, lent, related};
+    use oyinkafubo_host::generate::{draft, http, lent, related};
     use oyinkafubo_host::meaning::meaning;
     use oyinkafubo_host::random::Random;
 
@@ -125,7 +125,7 @@ mod gateway {
         let blocks = lent.blocks();
         let mut requests = Vec::new();
         while requests.len() < count {
-            let bytes = http::good(random, &lent.mounts).bytes();
+            let bytes = draft::good(random, &lent.mounts).bytes();
             if bytes.len() < 800 && forward(&blocks, &bytes).is_ok() {
                 requests.push(bytes);
             }
@@ -199,8 +199,8 @@ mod gateway {
         for _ in 0..40_000 {
             let lent = lent::good(&mut random);
             let blocks = lent.blocks();
-            let draft = http::good(&mut random, &lent.mounts);
-            let (one, two) = (draft.bytes(), related::related(&mut random, &draft).bytes());
+            let request = draft::good(&mut random, &lent.mounts);
+            let (one, two) = (request.bytes(), related::related(&mut random, &request).bytes());
             let (Ok(first), Ok(second)) = (forward(&blocks, &one), forward(&blocks, &two)) else {
                 continue;
             };

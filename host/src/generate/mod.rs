@@ -1,10 +1,12 @@
 //! Inputs for each call: good ones from the grammars, ones with a wanted fault, lengths around each limit, and damage to all of them.
-pub mod damage;
+mod damage;
+pub mod draft;
 pub mod http;
 pub mod lent;
 pub mod related;
 pub mod response;
 pub mod scgi;
+mod spoil;
 
 use crate::case::{Call, Case};
 use crate::random::Random;

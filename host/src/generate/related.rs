@@ -1,5 +1,5 @@
 //! Requests that are near to another one: with the same meaning, or with one that differs in a little thing.
-use super::http::Draft;
+use super::draft::Draft;
 use crate::random::Random;
 
 /// A request that differs from the draft in one place or two.
