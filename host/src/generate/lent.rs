@@ -75,10 +75,14 @@ pub fn at_limit(random: &mut Random) -> Lent {
     let mut lent = good(random);
     let to_facts = random.around(MAX_FACTS);
     let to_mounts = random.around(MAX_MOUNTS);
-    match random.below(4) {
+    match random.below(5) {
         0 => fill(random, &mut lent.facts, to_facts),
         1 => fill(random, &mut lent.site, to_facts),
         2 => fill(random, &mut lent.mounts, to_mounts),
+        3 => {
+            lengthen(&mut lent.facts, to_facts);
+            lengthen(&mut lent.site, MAX_FACTS);
+        }
         _ => {
             let count = random.around(MAX_MOUNT_COUNT);
             while lent.mounts.len() < count {
@@ -88,6 +92,14 @@ pub fn at_limit(random: &mut Random) -> Lent {
         }
     }
     lent
+}
+
+/// Lengthens the first value so that the block has exactly this many bytes.
+fn lengthen(pairs: &mut [Pair], len: usize) {
+    let used = block(pairs).len();
+    if let Some((_, value)) = pairs.first_mut() {
+        value.resize(value.len() + len - used, b'7');
+    }
 }
 
 /// Adds a header so that the block has exactly this many bytes.

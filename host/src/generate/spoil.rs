@@ -131,7 +131,7 @@ fn fill_head(random: &mut Random, draft: &mut Draft, len: usize) {
 
 /// A request at one of the limits, on either side of it.
 pub fn at_limit(random: &mut Random, draft: &mut Draft) {
-    match random.below(6) {
+    match random.below(7) {
         0 => draft.method = vec![b'M'; random.around(MAX_METHOD)],
         1 => {
             let len = random.around(MAX_TARGET);
@@ -148,6 +148,12 @@ pub fn at_limit(random: &mut Random, draft: &mut Draft) {
         4 => {
             let len = random.around(MAX_HEAD);
             fill_head(random, draft, len);
+        }
+        5 => {
+            // about the most variables that there can be
+            draft.target = long_target(random, MAX_TARGET);
+            add_fields(random, draft, MAX_FIELDS - 1);
+            fill_head(random, draft, MAX_HEAD);
         }
         _ => {
             draft.remove("Content-Length");
