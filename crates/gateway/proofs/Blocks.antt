@@ -9,8 +9,6 @@ use native.Mathlib.Omega.{arith}
 use lib.ListN.{length, take, drop, length-take, length-drop, drop-of-length-le}
 use lib.Seq.{length-take-le, take-add, take-take, drop-at, drop-drop}
 use Rattle.octets.specs.Decimal.{decimal}
-use Rattle.octets.specs.Copy.{Wrote}
-use Rattle.octets.proofs.Copies.{before, length-over}
 use Rattle.http.specs.Target.{queryOf}
 use Rattle.http.specs.RequestLine.{versionText}
 use Rattle.http.specs.Fields.{fieldsAt}
@@ -34,19 +32,6 @@ pub rest-take : (s : List ℕ) (k n : ℕ) → k ≤ n → n ≤ length s → ta
 rest-take s k n h l =
     let e : n ≡ k + (n - k) = omega arith in
     sym (ap (λ (m : ℕ). drop k (take m s)) e ∙ ap (drop k) (take-add k (n - k) s) ∙ drop-at (take k s) (take (n - k) (drop k s)) k (length-take-le k s (omega arith)))
-
--- what was written at a buffer's front stands there
-module _ {d w d′ : List ℕ} {n : ℕ} (room : length w ≤ length d) (x : Wrote d 0 w d′ n) where
-  fits : 0 + length w ≤ length d
-  fits = omega arith
-
-  pub wrote-front : take n d′ ≡ w
-  wrote-front = rw (x .ends, x .holds) (before d 0 w fits)
-
-  pub wrote-inside : n ≤ length d′
-  wrote-inside =
-      let l : length d′ ≡ length d = ap length (x .holds) ∙ length-over d 0 w fits in
-      omega (arith, x .ends)
 
 -- The query, whose start is told by the path's length p in a target of n bytes at t.
 

@@ -17,3 +17,4 @@ pub mod Puts
 pub mod FixedVariables
 pub mod FieldVariables
 pub mod Blocks
+pub mod StepParts

@@ -9,3 +9,4 @@ pub mod Put
 pub mod FixedBytes
 pub mod FieldVariables
 pub mod Block
+pub mod Stepping

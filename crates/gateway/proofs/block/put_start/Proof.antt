@@ -9,7 +9,7 @@ use Rattle.octets.proofs.Copies.{before}
 use Rattle.octets.proofs.Decimals.{twenty-digits}
 use Rattle.octets.proofs.Lists.{part}
 use lib.Seq.{length-take-le}
-use Rattle.gateway.proofs.Blocks.{wrote-front, wrote-inside}
+use Rattle.gateway.proofs.Puts.{wrote-front, wrote-inside}
 use borrow.Author.Needs.{needs}
 use Rattle.gateway.proofs.block.put_start.Statement.{statement}
 use Rattle.gateway.proofs.block.put_start.Tie as tie
