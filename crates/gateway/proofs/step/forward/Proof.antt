@@ -41,16 +41,22 @@ returns : tie.Need-returns
 returns c = search needs
 
 returns-2 : tie.Need-returns-2
-returns-2 c = left-alone (roomFor (length (c .before .before .before .before .before .before .before .before .before .before .before .before .before .before .before .args .out .now)) (forwardFrom (settingsAt (c .before .before .before .before .before .before .before .before .before .before .before .before .before .before .before .args .facts .now) (c .before .before .before .before .before .before .before .before .before .before .before .before .before .before .before .args .site .now) (c .before .before .before .before .before .before .before .before .before .before .before .before .before .before .before .args .settings)) (parsed (c .before .before .before .before .before .before .before .before .before .before .before .before .before .before .before .args .mounts .now)) (c .before .before .before .before .before .before .before .before .before .before .before .before .before .before .before .args .http .now) (c .before .before .before .before .before .before .before .before .before .before .before .before .before .before .before .args .head-len) (requestIn (take (c .before .before .before .before .before .before .before .before .before .before .before .before .before .before .before .args .head-len - 4) (c .before .before .before .before .before .before .before .before .before .before .before .before .before .before .before .args .http .now)) (c .before .before .before .before .before .before .before .before .before .before .before .before .before .before .before .args .places .now) (c .before .before .before .before .before .before .before .before .before .before .before .before .before .before .before .args .path .now) (c .before .before .before .before .before .before .before .before .before .before .before .before .before .before .before .args .line) (c .before .before .before .before .before .before .before .before .before .before .before .before .before .before .before .args .fields)))) (c .before .before .before .before .before .before .before .before .before .before .before .before .before .before .before .args .mounts .now) (c .before .before .before .before .before .before .before .before .before .before .before .before .before .before .before .args .out .now) _ (no-mount (settingsAt (c .before .before .before .before .before .before .before .before .before .before .before .before .before .before .before .args .facts .now) (c .before .before .before .before .before .before .before .before .before .before .before .before .before .before .before .args .site .now) (c .before .before .before .before .before .before .before .before .before .before .before .before .before .before .before .args .settings)) (parsed (c .before .before .before .before .before .before .before .before .before .before .before .before .before .before .before .args .mounts .now)) (c .before .before .before .before .before .before .before .before .before .before .before .before .before .before .before .args .http .now) (c .before .before .before .before .before .before .before .before .before .before .before .before .before .before .before .args .head-len) (requestIn (take (c .before .before .before .before .before .before .before .before .before .before .before .before .before .before .before .args .head-len - 4) (c .before .before .before .before .before .before .before .before .before .before .before .before .before .before .before .args .http .now)) (c .before .before .before .before .before .before .before .before .before .before .before .before .before .before .before .args .places .now) (c .before .before .before .before .before .before .before .before .before .before .before .before .before .before .before .args .path .now) (c .before .before .before .before .before .before .before .before .before .before .before .before .before .before .before .args .line) (c .before .before .before .before .before .before .before .before .before .before .before .before .before .before .before .args .fields)) (length (c .before .before .before .before .before .before .before .before .before .before .before .before .before .before .before .args .out .now)) _ (sym (c .before .before .before .before .before .before .search .ensures .answer) ∙ ap (mountOutcome (c .before .before .before .before .before .before .before .before .before .before .before .before .before .before .before .args .mounts .now) (pathIn (c .before .before .before .before .before .before .before .before .before .before .before .before .before .before .before .args .path .now) (c .before .before .before .before .before .before .before .before .before .before .before .before .before .before .before .args .line))) (c .before .before .before .before .m2 .given .1 ∙ c .before .m3 .given .1)))
+returns-2 c =
+    let a = c .before .before .before .before .before .before .before .before .before .before .before .before .before .before .before .args in
+    left-alone (roomFor (length (a .out .now)) (forwardFrom (settingsAt (a .facts .now) (a .site .now) (a .settings)) (parsed (a .mounts .now)) (a .http .now) (a .head-len) (requestIn (take (a .head-len - 4) (a .http .now)) (a .places .now) (a .path .now) (a .line) (a .fields)))) (a .mounts .now) (a .out .now) _ (no-mount (settingsAt (a .facts .now) (a .site .now) (a .settings)) (parsed (a .mounts .now)) (a .http .now) (a .head-len) (requestIn (take (a .head-len - 4) (a .http .now)) (a .places .now) (a .path .now) (a .line) (a .fields)) (length (a .out .now)) _ (sym (c .before .before .before .before .before .before .search .ensures .answer) ∙ ap (mountOutcome (a .mounts .now) (pathIn (a .path .now) (a .line))) (c .before .before .before .before .m2 .given .1 ∙ c .before .m3 .given .1)))
 
 returns-3 : tie.Need-returns-3
-returns-3 c = left-alone (roomFor (length (c .before .before .before .before .before .before .before .before .before .before .before .before .before .before .args .out .now)) (forwardFrom (settingsAt (c .before .before .before .before .before .before .before .before .before .before .before .before .before .before .args .facts .now) (c .before .before .before .before .before .before .before .before .before .before .before .before .before .before .args .site .now) (c .before .before .before .before .before .before .before .before .before .before .before .before .before .before .args .settings)) (parsed (c .before .before .before .before .before .before .before .before .before .before .before .before .before .before .args .mounts .now)) (c .before .before .before .before .before .before .before .before .before .before .before .before .before .before .args .http .now) (c .before .before .before .before .before .before .before .before .before .before .before .before .before .before .args .head-len) (requestIn (take (c .before .before .before .before .before .before .before .before .before .before .before .before .before .before .args .head-len - 4) (c .before .before .before .before .before .before .before .before .before .before .before .before .before .before .args .http .now)) (c .before .before .before .before .before .before .before .before .before .before .before .before .before .before .args .places .now) (c .before .before .before .before .before .before .before .before .before .before .before .before .before .before .args .path .now) (c .before .before .before .before .before .before .before .before .before .before .before .before .before .before .args .line) (c .before .before .before .before .before .before .before .before .before .before .before .before .before .before .args .fields)))) (c .before .before .before .before .before .before .before .before .before .before .before .before .before .before .args .mounts .now) (c .before .before .before .before .before .before .before .before .before .before .before .before .before .before .args .out .now) _ (body-above (settingsAt (c .before .before .before .before .before .before .before .before .before .before .before .before .before .before .args .facts .now) (c .before .before .before .before .before .before .before .before .before .before .before .before .before .before .args .site .now) (c .before .before .before .before .before .before .before .before .before .before .before .before .before .before .args .settings)) (parsed (c .before .before .before .before .before .before .before .before .before .before .before .before .before .before .args .mounts .now)) (c .before .before .before .before .before .before .before .before .before .before .before .before .before .before .args .http .now) (c .before .before .before .before .before .before .before .before .before .before .before .before .before .before .args .head-len) (requestIn (take (c .before .before .before .before .before .before .before .before .before .before .before .before .before .before .args .head-len - 4) (c .before .before .before .before .before .before .before .before .before .before .before .before .before .before .args .http .now)) (c .before .before .before .before .before .before .before .before .before .before .before .before .before .before .args .places .now) (c .before .before .before .before .before .before .before .before .before .before .before .before .before .before .args .path .now) (c .before .before .before .before .before .before .before .before .before .before .before .before .before .before .args .line) (c .before .before .before .before .before .before .before .before .before .before .before .before .before .before .args .fields)) (length (c .before .before .before .before .before .before .before .before .before .before .before .before .before .before .args .out .now)) _ (sym (rw (c .before .before .before .m .given .1) at (c .before .before .before .before .before .search .ensures .answer))) (c .if1 .taken))
+returns-3 c =
+    let a = c .before .before .before .before .before .before .before .before .before .before .before .before .before .before .args in
+    left-alone (roomFor (length (a .out .now)) (forwardFrom (settingsAt (a .facts .now) (a .site .now) (a .settings)) (parsed (a .mounts .now)) (a .http .now) (a .head-len) (requestIn (take (a .head-len - 4) (a .http .now)) (a .places .now) (a .path .now) (a .line) (a .fields)))) (a .mounts .now) (a .out .now) _ (body-above (settingsAt (a .facts .now) (a .site .now) (a .settings)) (parsed (a .mounts .now)) (a .http .now) (a .head-len) (requestIn (take (a .head-len - 4) (a .http .now)) (a .places .now) (a .path .now) (a .line) (a .fields)) (length (a .out .now)) _ (sym (rw (c .before .before .before .m .given .1) at (c .before .before .before .before .before .search .ensures .answer))) (c .if1 .taken))
 
 add-used : tie.Need-add-used
 add-used c = search needs
 
 returns-4 : tie.Need-returns-4
-returns-4 c = left-alone (roomFor (length (c .before .before .before .before .before .before .before .before .before .before .before .before .before .before .before .args .out .now)) (forwardFrom (settingsAt (c .before .before .before .before .before .before .before .before .before .before .before .before .before .before .before .args .facts .now) (c .before .before .before .before .before .before .before .before .before .before .before .before .before .before .before .args .site .now) (c .before .before .before .before .before .before .before .before .before .before .before .before .before .before .before .args .settings)) (parsed (c .before .before .before .before .before .before .before .before .before .before .before .before .before .before .before .args .mounts .now)) (c .before .before .before .before .before .before .before .before .before .before .before .before .before .before .before .args .http .now) (c .before .before .before .before .before .before .before .before .before .before .before .before .before .before .before .args .head-len) (requestIn (take (c .before .before .before .before .before .before .before .before .before .before .before .before .before .before .before .args .head-len - 4) (c .before .before .before .before .before .before .before .before .before .before .before .before .before .before .before .args .http .now)) (c .before .before .before .before .before .before .before .before .before .before .before .before .before .before .before .args .places .now) (c .before .before .before .before .before .before .before .before .before .before .before .before .before .before .before .args .path .now) (c .before .before .before .before .before .before .before .before .before .before .before .before .before .before .before .args .line) (c .before .before .before .before .before .before .before .before .before .before .before .before .before .before .before .args .fields)))) (c .before .before .before .before .before .before .before .before .before .before .before .before .before .before .before .args .mounts .now) (c .before .before .before .before .before .before .before .before .before .before .before .before .before .before .before .args .out .now) _ (body-short (settingsAt (c .before .before .before .before .before .before .before .before .before .before .before .before .before .before .before .args .facts .now) (c .before .before .before .before .before .before .before .before .before .before .before .before .before .before .before .args .site .now) (c .before .before .before .before .before .before .before .before .before .before .before .before .before .before .before .args .settings)) (parsed (c .before .before .before .before .before .before .before .before .before .before .before .before .before .before .before .args .mounts .now)) (c .before .before .before .before .before .before .before .before .before .before .before .before .before .before .before .args .http .now) (c .before .before .before .before .before .before .before .before .before .before .before .before .before .before .before .args .head-len) (requestIn (take (c .before .before .before .before .before .before .before .before .before .before .before .before .before .before .before .args .head-len - 4) (c .before .before .before .before .before .before .before .before .before .before .before .before .before .before .before .args .http .now)) (c .before .before .before .before .before .before .before .before .before .before .before .before .before .before .before .args .places .now) (c .before .before .before .before .before .before .before .before .before .before .before .before .before .before .before .args .path .now) (c .before .before .before .before .before .before .before .before .before .before .before .before .before .before .before .args .line) (c .before .before .before .before .before .before .before .before .before .before .before .before .before .before .before .args .fields)) (length (c .before .before .before .before .before .before .before .before .before .before .before .before .before .before .before .args .out .now)) _ (sym (rw (c .before .before .before .before .m .given .1) at (c .before .before .before .before .before .before .search .ensures .answer))) (c .before .if1 .left) (c .if2 .taken))
+returns-4 c =
+    let a = c .before .before .before .before .before .before .before .before .before .before .before .before .before .before .before .args in
+    left-alone (roomFor (length (a .out .now)) (forwardFrom (settingsAt (a .facts .now) (a .site .now) (a .settings)) (parsed (a .mounts .now)) (a .http .now) (a .head-len) (requestIn (take (a .head-len - 4) (a .http .now)) (a .places .now) (a .path .now) (a .line) (a .fields)))) (a .mounts .now) (a .out .now) _ (body-short (settingsAt (a .facts .now) (a .site .now) (a .settings)) (parsed (a .mounts .now)) (a .http .now) (a .head-len) (requestIn (take (a .head-len - 4) (a .http .now)) (a .places .now) (a .path .now) (a .line) (a .fields)) (length (a .out .now)) _ (sym (rw (c .before .before .before .before .m .given .1) at (c .before .before .before .before .before .before .search .ensures .answer))) (c .before .if1 .left) (c .if2 .taken))
 
 sub-head : tie.Need-sub-head
 sub-head c = search needs
@@ -92,13 +98,17 @@ same-length-2 : tie.Need-same-length-2
 same-length-2 c = search needs
 
 returns-6 : tie.Need-returns-6
-returns-6 c = rw (body-there (settingsAt (c .before .before .before .before .before .before .before .before .before .before .before .before .before .before .before .before .before .before .before .before .before .before .before .before .before .before .before .args .facts .now) (c .before .before .before .before .before .before .before .before .before .before .before .before .before .before .before .before .before .before .before .before .before .before .before .before .before .before .before .args .site .now) (c .before .before .before .before .before .before .before .before .before .before .before .before .before .before .before .before .before .before .before .before .before .before .before .before .before .before .before .args .settings)) (parsed (c .before .before .before .before .before .before .before .before .before .before .before .before .before .before .before .before .before .before .before .before .before .before .before .before .before .before .before .args .mounts .now)) (c .before .before .before .before .before .before .before .before .before .before .before .before .before .before .before .before .before .before .before .before .before .before .before .before .before .before .before .args .http .now) (c .before .before .before .before .before .before .before .before .before .before .before .before .before .before .before .before .before .before .before .before .before .before .before .before .before .before .before .args .head-len) (requestIn (take (c .before .before .before .before .before .before .before .before .before .before .before .before .before .before .before .before .before .before .before .before .before .before .before .before .before .before .before .args .head-len - 4) (c .before .before .before .before .before .before .before .before .before .before .before .before .before .before .before .before .before .before .before .before .before .before .before .before .before .before .before .args .http .now)) (c .before .before .before .before .before .before .before .before .before .before .before .before .before .before .before .before .before .before .before .before .before .before .before .before .before .before .before .args .places .now) (c .before .before .before .before .before .before .before .before .before .before .before .before .before .before .before .before .before .before .before .before .before .before .before .before .before .before .before .args .path .now) (c .before .before .before .before .before .before .before .before .before .before .before .before .before .before .before .before .before .before .before .before .before .before .before .before .before .before .before .args .line) (c .before .before .before .before .before .before .before .before .before .before .before .before .before .before .before .before .before .before .before .before .before .before .before .before .before .before .before .args .fields)) (length (c .before .before .before .before .before .before .before .before .before .before .before .before .before .before .before .before .before .before .before .before .before .before .before .before .before .before .before .args .out .now)) _ (sym (rw (c .before .before .before .before .before .before .before .before .before .before .before .before .before .before .before .before .m .given .1) at (c .before .before .before .before .before .before .before .before .before .before .before .before .before .before .before .before .before .before .search .ensures .answer))) (c .before .before .before .before .before .before .before .before .before .before .before .before .before .if1 .left) (c .before .before .before .before .before .before .before .before .before .before .before .before .if2 .left)) (not-written (settingsAt (c .before .before .before .before .before .before .before .before .before .before .before .before .before .before .before .before .before .before .before .before .before .before .before .before .before .before .before .args .facts .now) (c .before .before .before .before .before .before .before .before .before .before .before .before .before .before .before .before .before .before .before .before .before .before .before .before .before .before .before .args .site .now) (c .before .before .before .before .before .before .before .before .before .before .before .before .before .before .before .before .before .before .before .before .before .before .before .before .before .before .before .args .settings)) (routeOf (record { name = take (c .before .before .before .before .before .before .before .before .before .before .before .before .before .before .before .before .m .given .0 .0) (pathIn (c .before .before .before .before .before .before .before .before .before .before .before .before .before .before .before .before .before .before .before .before .before .before .before .before .before .before .before .args .path .now) (c .before .before .before .before .before .before .before .before .before .before .before .before .before .before .before .before .before .before .before .before .before .before .before .before .before .before .before .args .line)); value = (take (c .before .before .before .before .before .before .before .before .before .before .before .before .before .before .before .before .m .given .0 .1 .1 .0) (drop (c .before .before .before .before .before .before .before .before .before .before .before .before .before .before .before .before .m .given .0 .1 .0) (c .before .before .before .before .before .before .before .before .before .before .before .before .before .before .before .before .before .before .before .before .before .before .before .before .before .before .before .args .mounts .now))) }) (pathIn (c .before .before .before .before .before .before .before .before .before .before .before .before .before .before .before .before .before .before .before .before .before .before .before .before .before .before .before .args .path .now) (c .before .before .before .before .before .before .before .before .before .before .before .before .before .before .before .before .before .before .before .before .before .before .before .before .before .before .before .args .line))) (meaningOf (lineIn (take (c .before .before .before .before .before .before .before .before .before .before .before .before .before .before .before .before .before .before .before .before .before .before .before .before .before .before .before .args .head-len - 4) (c .before .before .before .before .before .before .before .before .before .before .before .before .before .before .before .before .before .before .before .before .before .before .before .before .before .before .before .args .http .now)) (c .before .before .before .before .before .before .before .before .before .before .before .before .before .before .before .before .before .before .before .before .before .before .before .before .before .before .before .args .line)) (fieldsIn (take (c .before .before .before .before .before .before .before .before .before .before .before .before .before .before .before .before .before .before .before .before .before .before .before .before .before .before .before .args .head-len - 4) (c .before .before .before .before .before .before .before .before .before .before .before .before .before .before .before .before .before .before .before .before .before .before .before .before .before .before .before .args .http .now)) (c .before .before .before .before .before .before .before .before .before .before .before .before .before .before .before .before .before .before .before .before .before .before .before .before .before .before .before .args .places .now) (c .before .before .before .before .before .before .before .before .before .before .before .before .before .before .before .before .before .before .before .before .before .before .before .before .before .before .before .args .fields)) (take (c .before .before .before .before .before .before .before .before .before .before .before .before .before .before .before .before .before .before .before .before .before .before .before .before .before .before .before .args .fields .body) (drop (c .before .before .before .before .before .before .before .before .before .before .before .before .before .before .before .before .before .before .before .before .before .before .before .before .before .before .before .args .head-len) (c .before .before .before .before .before .before .before .before .before .before .before .before .before .before .before .before .before .before .before .before .before .before .before .before .before .before .before .args .http .now)))) (c .before .before .before .before .before .before .before .before .before .before .before .before .before .before .before .before .before .before .before .before .before .before .before .before .before .before .before .args .mounts .now) (c .before .before .before .before .before .before .before .before .before .before .before .before .before .before .before .before .before .before .before .before .before .before .before .before .before .before .before .args .out .now) _ (c .before .before .before .before .before .before .before .before .before .before .before .before .before .before .before .before .m .given .0 .1 .0) (c .before .before .before .before .before .before .before .before .before .before .before .before .before .before .before .before .m .given .0 .1 .1 .0) (c .before .before .before .before .before .before .before .before .before .before .before .before .before .before .before .before .before .before .before .before .before .before .before .before .before .before .before .args .head-len + c .before .before .before .before .before .before .before .before .before .before .before .before .before .before .before .before .before .before .before .before .before .before .before .before .before .before .before .args .fields .body) _ (routed (settingsAt (c .before .before .before .before .before .before .before .before .before .before .before .before .before .before .before .before .before .before .before .before .before .before .before .before .before .before .before .args .facts .now) (c .before .before .before .before .before .before .before .before .before .before .before .before .before .before .before .before .before .before .before .before .before .before .before .before .before .before .before .args .site .now) (c .before .before .before .before .before .before .before .before .before .before .before .before .before .before .before .before .before .before .before .before .before .before .before .before .before .before .before .args .settings)) (meaningOf (lineIn (take (c .before .before .before .before .before .before .before .before .before .before .before .before .before .before .before .before .before .before .before .before .before .before .before .before .before .before .before .args .head-len - 4) (c .before .before .before .before .before .before .before .before .before .before .before .before .before .before .before .before .before .before .before .before .before .before .before .before .before .before .before .args .http .now)) (c .before .before .before .before .before .before .before .before .before .before .before .before .before .before .before .before .before .before .before .before .before .before .before .before .before .before .before .args .line)) (fieldsIn (take (c .before .before .before .before .before .before .before .before .before .before .before .before .before .before .before .before .before .before .before .before .before .before .before .before .before .before .before .args .head-len - 4) (c .before .before .before .before .before .before .before .before .before .before .before .before .before .before .before .before .before .before .before .before .before .before .before .before .before .before .before .args .http .now)) (c .before .before .before .before .before .before .before .before .before .before .before .before .before .before .before .before .before .before .before .before .before .before .before .before .before .before .before .args .places .now) (c .before .before .before .before .before .before .before .before .before .before .before .before .before .before .before .before .before .before .before .before .before .before .before .before .before .before .before .args .fields)) (take (c .before .before .before .before .before .before .before .before .before .before .before .before .before .before .before .before .before .before .before .before .before .before .before .before .before .before .before .args .fields .body) (drop (c .before .before .before .before .before .before .before .before .before .before .before .before .before .before .before .before .before .before .before .before .before .before .before .before .before .before .before .args .head-len) (c .before .before .before .before .before .before .before .before .before .before .before .before .before .before .before .before .before .before .before .before .before .before .before .before .before .before .before .args .http .now)))) (pathIn (c .before .before .before .before .before .before .before .before .before .before .before .before .before .before .before .before .before .before .before .before .before .before .before .before .before .before .before .args .path .now) (c .before .before .before .before .before .before .before .before .before .before .before .before .before .before .before .before .before .before .before .before .before .before .before .before .before .before .before .args .line)) (c .before .before .before .before .before .before .before .before .before .before .before .before .before .before .before .before .m .given .0 .0) (take (c .before .before .before .before .before .before .before .before .before .before .before .before .before .before .before .before .m .given .0 .1 .1 .0) (drop (c .before .before .before .before .before .before .before .before .before .before .before .before .before .before .before .before .m .given .0 .1 .0) (c .before .before .before .before .before .before .before .before .before .before .before .before .before .before .before .before .before .before .before .before .before .before .before .before .before .before .before .args .mounts .now))) (c .before .before .before .before .before .before .before .before .before .before .before .before .before .before .before .before .before .before .before .before .before .before .before .before .before .before .before .args .out .now) _ ((rw (c .before .before .before .before .before .before .before .before .before .before .before .before .before .before .before .before .m .given .1) at (c .before .before .before .before .before .before .before .before .before .before .before .before .before .before .before .before .before .before .search .ensures .inside)) .0) (rw (part (c .before .before .before .before .before .before .before .before .before .before .before .before .before .before .before .before .before .before .before .before .before .before .before .before .before .before .before .args .http .now) (c .before .before .before .before .before .before .before .before .before .before .before .before .before .before .before .before .before .before .before .before .before .before .before .before .before .before .before .args .head-len) (c .before .before .before .before .before .before .before .before .before .before .before .before .before .before .before .before .before .before .before .before .before .before .before .before .before .before .before .args .fields .body)) at (rw (c .before .before .before .before .w2 .given .1 ∙ c .before .w3 .given .1) at (c .before .before .before .before .before .before .before .before .write-request .ensures)))))
+returns-6 c =
+    let a = c .before .before .before .before .before .before .before .before .before .before .before .before .before .before .before .before .before .before .before .before .before .before .before .before .before .before .before .args in
+    rw (body-there (settingsAt (a .facts .now) (a .site .now) (a .settings)) (parsed (a .mounts .now)) (a .http .now) (a .head-len) (requestIn (take (a .head-len - 4) (a .http .now)) (a .places .now) (a .path .now) (a .line) (a .fields)) (length (a .out .now)) _ (sym (rw (c .before .before .before .before .before .before .before .before .before .before .before .before .before .before .before .before .m .given .1) at (c .before .before .before .before .before .before .before .before .before .before .before .before .before .before .before .before .before .before .search .ensures .answer))) (c .before .before .before .before .before .before .before .before .before .before .before .before .before .if1 .left) (c .before .before .before .before .before .before .before .before .before .before .before .before .if2 .left)) (not-written (settingsAt (a .facts .now) (a .site .now) (a .settings)) (routeOf (record { name = take (c .before .before .before .before .before .before .before .before .before .before .before .before .before .before .before .before .m .given .0 .0) (pathIn (a .path .now) (a .line)); value = (take (c .before .before .before .before .before .before .before .before .before .before .before .before .before .before .before .before .m .given .0 .1 .1 .0) (drop (c .before .before .before .before .before .before .before .before .before .before .before .before .before .before .before .before .m .given .0 .1 .0) (a .mounts .now))) }) (pathIn (a .path .now) (a .line))) (meaningOf (lineIn (take (a .head-len - 4) (a .http .now)) (a .line)) (fieldsIn (take (a .head-len - 4) (a .http .now)) (a .places .now) (a .fields)) (take (a .fields .body) (drop (a .head-len) (a .http .now)))) (a .mounts .now) (a .out .now) _ (c .before .before .before .before .before .before .before .before .before .before .before .before .before .before .before .before .m .given .0 .1 .0) (c .before .before .before .before .before .before .before .before .before .before .before .before .before .before .before .before .m .given .0 .1 .1 .0) (a .head-len + a .fields .body) _ (routed (settingsAt (a .facts .now) (a .site .now) (a .settings)) (meaningOf (lineIn (take (a .head-len - 4) (a .http .now)) (a .line)) (fieldsIn (take (a .head-len - 4) (a .http .now)) (a .places .now) (a .fields)) (take (a .fields .body) (drop (a .head-len) (a .http .now)))) (pathIn (a .path .now) (a .line)) (c .before .before .before .before .before .before .before .before .before .before .before .before .before .before .before .before .m .given .0 .0) (take (c .before .before .before .before .before .before .before .before .before .before .before .before .before .before .before .before .m .given .0 .1 .1 .0) (drop (c .before .before .before .before .before .before .before .before .before .before .before .before .before .before .before .before .m .given .0 .1 .0) (a .mounts .now))) (a .out .now) _ ((rw (c .before .before .before .before .before .before .before .before .before .before .before .before .before .before .before .before .m .given .1) at (c .before .before .before .before .before .before .before .before .before .before .before .before .before .before .before .before .before .before .search .ensures .inside)) .0) (rw (part (a .http .now) (a .head-len) (a .fields .body)) at (rw (c .before .before .before .before .w2 .given .1 ∙ c .before .w3 .given .1) at (c .before .before .before .before .before .before .before .before .write-request .ensures)))))
 
 same-length-3 : tie.Need-same-length-3
 same-length-3 c = search needs
 
 returns-7 : tie.Need-returns-7
-returns-7 c = rw (body-there (settingsAt (c .before .before .before .before .before .before .before .before .before .before .before .before .before .before .before .before .before .before .before .before .before .before .before .before .args .facts .now) (c .before .before .before .before .before .before .before .before .before .before .before .before .before .before .before .before .before .before .before .before .before .before .before .before .args .site .now) (c .before .before .before .before .before .before .before .before .before .before .before .before .before .before .before .before .before .before .before .before .before .before .before .before .args .settings)) (parsed (c .before .before .before .before .before .before .before .before .before .before .before .before .before .before .before .before .before .before .before .before .before .before .before .before .args .mounts .now)) (c .before .before .before .before .before .before .before .before .before .before .before .before .before .before .before .before .before .before .before .before .before .before .before .before .args .http .now) (c .before .before .before .before .before .before .before .before .before .before .before .before .before .before .before .before .before .before .before .before .before .before .before .before .args .head-len) (requestIn (take (c .before .before .before .before .before .before .before .before .before .before .before .before .before .before .before .before .before .before .before .before .before .before .before .before .args .head-len - 4) (c .before .before .before .before .before .before .before .before .before .before .before .before .before .before .before .before .before .before .before .before .before .before .before .before .args .http .now)) (c .before .before .before .before .before .before .before .before .before .before .before .before .before .before .before .before .before .before .before .before .before .before .before .before .args .places .now) (c .before .before .before .before .before .before .before .before .before .before .before .before .before .before .before .before .before .before .before .before .before .before .before .before .args .path .now) (c .before .before .before .before .before .before .before .before .before .before .before .before .before .before .before .before .before .before .before .before .before .before .before .before .args .line) (c .before .before .before .before .before .before .before .before .before .before .before .before .before .before .before .before .before .before .before .before .before .before .before .before .args .fields)) (length (c .before .before .before .before .before .before .before .before .before .before .before .before .before .before .before .before .before .before .before .before .before .before .before .before .args .out .now)) _ (sym (rw (c .before .before .before .before .before .before .before .before .before .before .before .before .before .m .given .1) at (c .before .before .before .before .before .before .before .before .before .before .before .before .before .before .before .search .ensures .answer))) (c .before .before .before .before .before .before .before .before .before .before .if1 .left) (c .before .before .before .before .before .before .before .before .before .if2 .left)) (has-written (settingsAt (c .before .before .before .before .before .before .before .before .before .before .before .before .before .before .before .before .before .before .before .before .before .before .before .before .args .facts .now) (c .before .before .before .before .before .before .before .before .before .before .before .before .before .before .before .before .before .before .before .before .before .before .before .before .args .site .now) (c .before .before .before .before .before .before .before .before .before .before .before .before .before .before .before .before .before .before .before .before .before .before .before .before .args .settings)) (routeOf (record { name = take (c .before .before .before .before .before .before .before .before .before .before .before .before .before .m .given .0 .0) (pathIn (c .before .before .before .before .before .before .before .before .before .before .before .before .before .before .before .before .before .before .before .before .before .before .before .before .args .path .now) (c .before .before .before .before .before .before .before .before .before .before .before .before .before .before .before .before .before .before .before .before .before .before .before .before .args .line)); value = (take (c .before .before .before .before .before .before .before .before .before .before .before .before .before .m .given .0 .1 .1 .0) (drop (c .before .before .before .before .before .before .before .before .before .before .before .before .before .m .given .0 .1 .0) (c .before .before .before .before .before .before .before .before .before .before .before .before .before .before .before .before .before .before .before .before .before .before .before .before .args .mounts .now))) }) (pathIn (c .before .before .before .before .before .before .before .before .before .before .before .before .before .before .before .before .before .before .before .before .before .before .before .before .args .path .now) (c .before .before .before .before .before .before .before .before .before .before .before .before .before .before .before .before .before .before .before .before .before .before .before .before .args .line))) (meaningOf (lineIn (take (c .before .before .before .before .before .before .before .before .before .before .before .before .before .before .before .before .before .before .before .before .before .before .before .before .args .head-len - 4) (c .before .before .before .before .before .before .before .before .before .before .before .before .before .before .before .before .before .before .before .before .before .before .before .before .args .http .now)) (c .before .before .before .before .before .before .before .before .before .before .before .before .before .before .before .before .before .before .before .before .before .before .before .before .args .line)) (fieldsIn (take (c .before .before .before .before .before .before .before .before .before .before .before .before .before .before .before .before .before .before .before .before .before .before .before .before .args .head-len - 4) (c .before .before .before .before .before .before .before .before .before .before .before .before .before .before .before .before .before .before .before .before .before .before .before .before .args .http .now)) (c .before .before .before .before .before .before .before .before .before .before .before .before .before .before .before .before .before .before .before .before .before .before .before .before .args .places .now) (c .before .before .before .before .before .before .before .before .before .before .before .before .before .before .before .before .before .before .before .before .before .before .before .before .args .fields)) (take (c .before .before .before .before .before .before .before .before .before .before .before .before .before .before .before .before .before .before .before .before .before .before .before .before .args .fields .body) (drop (c .before .before .before .before .before .before .before .before .before .before .before .before .before .before .before .before .before .before .before .before .before .before .before .before .args .head-len) (c .before .before .before .before .before .before .before .before .before .before .before .before .before .before .before .before .before .before .before .before .before .before .before .before .args .http .now)))) (c .before .before .before .before .before .before .before .before .before .before .before .before .before .before .before .before .before .before .before .before .before .before .before .before .args .mounts .now) (c .before .before .before .before .before .before .before .before .before .before .before .before .before .before .before .before .before .before .before .before .before .before .before .before .args .out .now) _ (c .before .before .before .before .before .before .before .before .before .before .before .before .before .m .given .0 .1 .0) (c .before .before .before .before .before .before .before .before .before .before .before .before .before .m .given .0 .1 .1 .0) (c .before .before .before .before .before .before .before .before .before .before .before .before .before .before .before .before .before .before .before .before .before .before .before .before .args .head-len + c .before .before .before .before .before .before .before .before .before .before .before .before .before .before .before .before .before .before .before .before .before .before .before .before .args .fields .body) _ ((rw (c .before .before .before .before .before .before .before .before .before .before .before .before .before .m .given .1) at (c .before .before .before .before .before .before .before .before .before .before .before .before .before .before .before .search .ensures .inside)) .1) (routed (settingsAt (c .before .before .before .before .before .before .before .before .before .before .before .before .before .before .before .before .before .before .before .before .before .before .before .before .args .facts .now) (c .before .before .before .before .before .before .before .before .before .before .before .before .before .before .before .before .before .before .before .before .before .before .before .before .args .site .now) (c .before .before .before .before .before .before .before .before .before .before .before .before .before .before .before .before .before .before .before .before .before .before .before .before .args .settings)) (meaningOf (lineIn (take (c .before .before .before .before .before .before .before .before .before .before .before .before .before .before .before .before .before .before .before .before .before .before .before .before .args .head-len - 4) (c .before .before .before .before .before .before .before .before .before .before .before .before .before .before .before .before .before .before .before .before .before .before .before .before .args .http .now)) (c .before .before .before .before .before .before .before .before .before .before .before .before .before .before .before .before .before .before .before .before .before .before .before .before .args .line)) (fieldsIn (take (c .before .before .before .before .before .before .before .before .before .before .before .before .before .before .before .before .before .before .before .before .before .before .before .before .args .head-len - 4) (c .before .before .before .before .before .before .before .before .before .before .before .before .before .before .before .before .before .before .before .before .before .before .before .before .args .http .now)) (c .before .before .before .before .before .before .before .before .before .before .before .before .before .before .before .before .before .before .before .before .before .before .before .before .args .places .now) (c .before .before .before .before .before .before .before .before .before .before .before .before .before .before .before .before .before .before .before .before .before .before .before .before .args .fields)) (take (c .before .before .before .before .before .before .before .before .before .before .before .before .before .before .before .before .before .before .before .before .before .before .before .before .args .fields .body) (drop (c .before .before .before .before .before .before .before .before .before .before .before .before .before .before .before .before .before .before .before .before .before .before .before .before .args .head-len) (c .before .before .before .before .before .before .before .before .before .before .before .before .before .before .before .before .before .before .before .before .before .before .before .before .args .http .now)))) (pathIn (c .before .before .before .before .before .before .before .before .before .before .before .before .before .before .before .before .before .before .before .before .before .before .before .before .args .path .now) (c .before .before .before .before .before .before .before .before .before .before .before .before .before .before .before .before .before .before .before .before .before .before .before .before .args .line)) (c .before .before .before .before .before .before .before .before .before .before .before .before .before .m .given .0 .0) (take (c .before .before .before .before .before .before .before .before .before .before .before .before .before .m .given .0 .1 .1 .0) (drop (c .before .before .before .before .before .before .before .before .before .before .before .before .before .m .given .0 .1 .0) (c .before .before .before .before .before .before .before .before .before .before .before .before .before .before .before .before .before .before .before .before .before .before .before .before .args .mounts .now))) (c .before .before .before .before .before .before .before .before .before .before .before .before .before .before .before .before .before .before .before .before .before .before .before .before .args .out .now) _ ((rw (c .before .before .before .before .before .before .before .before .before .before .before .before .before .m .given .1) at (c .before .before .before .before .before .before .before .before .before .before .before .before .before .before .before .search .ensures .inside)) .0) (rw (part (c .before .before .before .before .before .before .before .before .before .before .before .before .before .before .before .before .before .before .before .before .before .before .before .before .args .http .now) (c .before .before .before .before .before .before .before .before .before .before .before .before .before .before .before .before .before .before .before .before .before .before .before .before .args .head-len) (c .before .before .before .before .before .before .before .before .before .before .before .before .before .before .before .before .before .before .before .before .before .before .before .before .args .fields .body)) at (rw (c .before .w .given .1) at (c .before .before .before .before .before .write-request .ensures)))))
+returns-7 c =
+    let a = c .before .before .before .before .before .before .before .before .before .before .before .before .before .before .before .before .before .before .before .before .before .before .before .before .args in
+    rw (body-there (settingsAt (a .facts .now) (a .site .now) (a .settings)) (parsed (a .mounts .now)) (a .http .now) (a .head-len) (requestIn (take (a .head-len - 4) (a .http .now)) (a .places .now) (a .path .now) (a .line) (a .fields)) (length (a .out .now)) _ (sym (rw (c .before .before .before .before .before .before .before .before .before .before .before .before .before .m .given .1) at (c .before .before .before .before .before .before .before .before .before .before .before .before .before .before .before .search .ensures .answer))) (c .before .before .before .before .before .before .before .before .before .before .if1 .left) (c .before .before .before .before .before .before .before .before .before .if2 .left)) (has-written (settingsAt (a .facts .now) (a .site .now) (a .settings)) (routeOf (record { name = take (c .before .before .before .before .before .before .before .before .before .before .before .before .before .m .given .0 .0) (pathIn (a .path .now) (a .line)); value = (take (c .before .before .before .before .before .before .before .before .before .before .before .before .before .m .given .0 .1 .1 .0) (drop (c .before .before .before .before .before .before .before .before .before .before .before .before .before .m .given .0 .1 .0) (a .mounts .now))) }) (pathIn (a .path .now) (a .line))) (meaningOf (lineIn (take (a .head-len - 4) (a .http .now)) (a .line)) (fieldsIn (take (a .head-len - 4) (a .http .now)) (a .places .now) (a .fields)) (take (a .fields .body) (drop (a .head-len) (a .http .now)))) (a .mounts .now) (a .out .now) _ (c .before .before .before .before .before .before .before .before .before .before .before .before .before .m .given .0 .1 .0) (c .before .before .before .before .before .before .before .before .before .before .before .before .before .m .given .0 .1 .1 .0) (a .head-len + a .fields .body) _ ((rw (c .before .before .before .before .before .before .before .before .before .before .before .before .before .m .given .1) at (c .before .before .before .before .before .before .before .before .before .before .before .before .before .before .before .search .ensures .inside)) .1) (routed (settingsAt (a .facts .now) (a .site .now) (a .settings)) (meaningOf (lineIn (take (a .head-len - 4) (a .http .now)) (a .line)) (fieldsIn (take (a .head-len - 4) (a .http .now)) (a .places .now) (a .fields)) (take (a .fields .body) (drop (a .head-len) (a .http .now)))) (pathIn (a .path .now) (a .line)) (c .before .before .before .before .before .before .before .before .before .before .before .before .before .m .given .0 .0) (take (c .before .before .before .before .before .before .before .before .before .before .before .before .before .m .given .0 .1 .1 .0) (drop (c .before .before .before .before .before .before .before .before .before .before .before .before .before .m .given .0 .1 .0) (a .mounts .now))) (a .out .now) _ ((rw (c .before .before .before .before .before .before .before .before .before .before .before .before .before .m .given .1) at (c .before .before .before .before .before .before .before .before .before .before .before .before .before .before .before .search .ensures .inside)) .0) (rw (part (a .http .now) (a .head-len) (a .fields .body)) at (rw (c .before .w .given .1) at (c .before .before .before .before .before .write-request .ensures)))))
 
 pub forward-spec : {M : Type 1} → statement M
 forward-spec =

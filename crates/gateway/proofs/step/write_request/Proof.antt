@@ -22,7 +22,9 @@ enum-told : tie.Need-enum-told
 enum-told c = search needs
 
 returns : tie.Need-returns
-returns c = too-large (blockAt (c .before .before .before .before .before .before .before .before .before .before .before .before .args .facts .now) (c .before .before .before .before .before .before .before .before .before .before .before .before .args .site .now) (c .before .before .before .before .before .before .before .before .before .before .before .before .args .head .now) (c .before .before .before .before .before .before .before .before .before .before .before .before .args .places .now) (c .before .before .before .before .before .before .before .before .before .before .before .before .args .path .now) (c .before .before .before .before .before .before .before .before .before .before .before .before .args .body .now) (c .before .before .before .before .before .before .before .before .before .before .before .before .args .settings) (c .before .before .before .before .before .before .before .before .before .before .before .before .args .line) (c .before .before .before .before .before .before .before .before .before .before .before .before .args .fields) (c .before .before .before .before .before .before .before .before .before .before .before .before .args .name-len)) (c .before .before .before .before .before .before .before .before .before .before .before .before .args .body .now) (c .before .before .before .before .before .before .before .before .before .before .before .before .args .out .now) (put-large (rw (c .enum-told .given .1) at (c .before .before .before .put-block .ensures)))
+returns c =
+    let a = c .before .before .before .before .before .before .before .before .before .before .before .before .args in
+    too-large (blockAt (a .facts .now) (a .site .now) (a .head .now) (a .places .now) (a .path .now) (a .body .now) (a .settings) (a .line) (a .fields) (a .name-len)) (a .body .now) (a .out .now) (put-large (rw (c .enum-told .given .1) at (c .before .before .before .put-block .ensures)))
 
 array-share-prefix-block : tie.Need-array-share-prefix-block
 array-share-prefix-block c = put-within (rw (c .before .p .given .1) at (c .before .before .before .before .put-block .ensures))
@@ -38,8 +40,9 @@ same-length c = search needs
 
 returns-2 : tie.Need-returns-2
 returns-2 c =
+    let a = c .before .before .before .before .before .before .before .before .before .before .before .before .before .before .before .before .before .before .args in
     let w = rw (c .before .before .before .before .before .before .p .given .1) at (c .before .before .before .before .before .before .before .before .before .put-block .ensures) in
-    rw (not-too-large (blockAt (c .before .before .before .before .before .before .before .before .before .before .before .before .before .before .before .before .before .before .args .facts .now) (c .before .before .before .before .before .before .before .before .before .before .before .before .before .before .before .before .before .before .args .site .now) (c .before .before .before .before .before .before .before .before .before .before .before .before .before .before .before .before .before .before .args .head .now) (c .before .before .before .before .before .before .before .before .before .before .before .before .before .before .before .before .before .before .args .places .now) (c .before .before .before .before .before .before .before .before .before .before .before .before .before .before .before .before .before .before .args .path .now) (c .before .before .before .before .before .before .before .before .before .before .before .before .before .before .before .before .before .before .args .body .now) (c .before .before .before .before .before .before .before .before .before .before .before .before .before .before .before .before .before .before .args .settings) (c .before .before .before .before .before .before .before .before .before .before .before .before .before .before .before .before .before .before .args .line) (c .before .before .before .before .before .before .before .before .before .before .before .before .before .before .before .before .before .before .args .fields) (c .before .before .before .before .before .before .before .before .before .before .before .before .before .before .before .before .before .before .args .name-len)) (c .before .before .before .before .before .before .before .before .before .before .before .before .before .before .before .before .before .before .args .body .now) (c .before .before .before .before .before .before .before .before .before .before .before .before .before .before .before .before .before .before .args .out .now) (put-small w)) (rw (put-front w) at (c .before .before .write-parts .ensures))
+    rw (not-too-large (blockAt (a .facts .now) (a .site .now) (a .head .now) (a .places .now) (a .path .now) (a .body .now) (a .settings) (a .line) (a .fields) (a .name-len)) (a .body .now) (a .out .now) (put-small w)) (rw (put-front w) at (c .before .before .write-parts .ensures))
 
 pub write-request-spec : {M : Type 1} → statement M
 write-request-spec =
