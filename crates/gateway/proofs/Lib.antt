@@ -16,3 +16,4 @@ pub mod Claims
 pub mod Puts
 pub mod FixedVariables
 pub mod FieldVariables
+pub mod Blocks

@@ -33,3 +33,8 @@ module _ {d : List ℕ} {at : ℕ} {w d₁ : List ℕ} where
   -- where a write ended, the next can begin
   pub put-within : {n : ℕ} → PutDone d at w d₁ (At n) → n ≤ length d₁
   put-within (fits h p) = omega (arith, p .ends, same-length h p)
+
+  -- a write keeps the buffer's length
+  pub put-length : {r : Put} → PutDone d at w d₁ r → length d₁ ≡ length d
+  put-length (fits h p) = same-length h p
+  put-length (no-room h l) = l
