@@ -1,6 +1,6 @@
 -- Each claim of specs/Claims.antt, proved. Crates above cite this file and no other of this folder.
 -- Assumes nothing.
-use Rattle.scgi.specs.Claims.{MoreBytesKeepAnswer, UsedWithin, CutGivesOne, SpoolsHold, AcceptsExactly, RequestOnce, WritesExactly, WriteThenRead, ReadThenWrite, LookupFindsValue, WellFormedHeaded, HeadersFew, HeadersProper, PlacesInside, NumbersHold, LargestRequest}
+use Rattle.scgi.specs.Claims.{MoreBytesKeepAnswer, UsedWithin, CutGivesOne, SpoolsHold, AcceptsExactly, RequestOnce, WritesExactly, RoomIsLast, WriteThenRead, ReadThenWrite, LookupFindsValue, WellFormedHeaded, HeadersFew, HeadersProper, PlacesInside, NumbersHold, LargestRequest}
 use Rattle.scgi.proofs.Reader as Reader
 use Rattle.scgi.proofs.Requests as Requests
 use Rattle.scgi.proofs.Writer as Writer
@@ -28,6 +28,9 @@ request-once = Requests.request-once
 
 pub writes-exactly : WritesExactly
 writes-exactly = Writer.writes-exactly
+
+pub room-is-last : RoomIsLast
+room-is-last = Writer.room-is-last
 
 pub write-then-read : WriteThenRead
 write-then-read = Writer.write-then-read

@@ -14,7 +14,7 @@ use Rattle.scgi.specs.Grammar.{netstring, encoded, IsRequest}
 use Rattle.scgi.specs.Check.{checkBlock}
 use Rattle.scgi.specs.Read.{Places, blockIn, bodyIn}
 use Rattle.scgi.specs.Write.{toWrite, writeOf}
-use Rattle.scgi.specs.Claims.{placesOf, Writable, WritesExactly, WriteThenRead, ReadThenWrite}
+use Rattle.scgi.specs.Claims.{placesOf, Writable, WritesExactly, RoomIsLast, WriteThenRead, ReadThenWrite}
 use Rattle.scgi.proofs.Checks.{check-request, checked-request}
 use Rattle.scgi.proofs.Requests.{placesBy, reads, block-at, body-at, request-length, to-accepted, block-is, body-is, front-is}
 
@@ -49,6 +49,10 @@ wrote block body w room e =
     let f : gives (a .it) ≡ gives w = c .1 in
     let g : a .it ≡ w = cc in
     record { bytes = to-write block body w (a .first ∙ ap gives g); fits = rw (← g) (leb-true (length (a .it)) room (c .0)) }
+
+pub room-is-last : RoomIsLast
+unfolding writeOf
+room-is-last block body room = refl
 
 pub write-then-read : WriteThenRead
 write-then-read block body w rest room e =

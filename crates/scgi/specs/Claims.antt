@@ -8,7 +8,7 @@ use mathlib.Core.List.{List, [], _∷_, _++_}
 use mathlib.Core.Option.{Option, some}
 use lib.Dec.{leb}
 use lib.ListN.{length, take}
-use Rattle.octets.specs.Outcome.{refused, gives}
+use Rattle.octets.specs.Outcome.{refused, gives, then}
 use Rattle.octets.specs.Kinds.{oneOf}
 use Rattle.octets.specs.Decimal.{decimal}
 use Rattle.octets.specs.Lists.{All}
@@ -19,7 +19,7 @@ use Rattle.scgi.specs.Lookup.{Part, partOption, valueIn, lookupOf}
 use Rattle.scgi.specs.Read.{Places, readOf, usedOf, blockIn, bodyIn}
 use Rattle.scgi.specs.Setting.{in-first, in-second, settingOf}
 use Rattle.scgi.specs.Window.{largest}
-use Rattle.scgi.specs.Write.{writeOf}
+use Rattle.scgi.specs.Write.{toWrite, inRoom, writeOf}
 
 -- more bytes change no answer but 1: "Bytes after the body are not looked at"
 abbrev pub MoreBytesKeepAnswer : Type 0
@@ -87,6 +87,10 @@ pub record Writable (block body : List ℕ) (room : ℕ) (w : List ℕ) : Type 0
 abbrev pub WritesExactly : Type 0
 WritesExactly = (block body : List ℕ) (room : ℕ) (w : List ℕ) → (writeOf block body room ≡ gives w) ↔ Writable block body room w
 
+-- "Its order is 3, 5, 6, 7, 8, 9, 10, 23, 21": the room is looked at last, and 21 is all that hangs on it
+abbrev pub RoomIsLast : Type 0
+RoomIsLast = (block body : List ℕ) (room : ℕ) → writeOf block body room ≡ then (toWrite block body) (λ w. inRoom w room)
+
 -- what the writer wrote is read, whatever stands behind it: the same block, the same body, and just the bytes written
 pub record ReadBack (block body w rest : List ℕ) : Type 0 where
   pub places : Places
@@ -143,7 +147,10 @@ readNumbers = 1 ∷ 2 ∷ 3 ∷ 4 ∷ 5 ∷ 6 ∷ 7 ∷ 8 ∷ 9 ∷ 10 ∷ []
 abbrev pub writeNumbers : List ℕ
 writeNumbers = 3 ∷ 5 ∷ 6 ∷ 7 ∷ 8 ∷ 9 ∷ 10 ∷ 23 ∷ 21 ∷ []
 
--- no other number is given: "Every refusal returns its number and nothing else"
+-- no other number is given: "Every refusal returns its number and nothing else"; of lookup, "Only a malformed block, either one of two, is refused,
+-- with 5"
 pub record NumbersHold : Type 0 where
   pub reader : (s : List ℕ) (n : ℕ) → readOf s ≡ refused n → oneOf readNumbers n ≡ true
   pub writer : (block body : List ℕ) (room n : ℕ) → writeOf block body room ≡ refused n → oneOf writeNumbers n ≡ true
+  pub lookup : (block name : List ℕ) (n : ℕ) → lookupOf block name ≡ refused n → n ≡ 5
+  pub setting : (first second name : List ℕ) (n : ℕ) → settingOf first second name ≡ refused n → n ≡ 5
