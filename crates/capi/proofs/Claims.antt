@@ -16,6 +16,8 @@ use Rattle.scgi.specs.Spool.{requestsOf}
 use Rattle.response.specs.Response.{responseOf}
 use Rattle.scgi.proofs.Claims.{numbers-hold}
 use Rattle.response.proofs.Claims as Response
+use Rattle.gateway.specs.Step.{stepOf}
+use Rattle.gateway.proofs.Claims as Gateway
 use Rattle.capi.specs.Answer.{fitting, returned}
 use Rattle.capi.specs.Read.{placesNumbers}
 use Rattle.capi.specs.Write.{countNumbers, writeGives}
@@ -23,6 +25,7 @@ use Rattle.capi.specs.Find.{partNumbers}
 use Rattle.capi.specs.Setting.{heldNumbers}
 use Rattle.capi.specs.Spool.{spoolNumbers, spoolGives}
 use Rattle.capi.specs.Respond.{answerNumbers}
+use Rattle.capi.specs.Forward.{forwardNumbers, gatewayGives}
 use Rattle.capi.specs.Claims.{Given, ZeroGives, ZeroIsGiven, RefusalKeeps}
 
 -- a lower call that never refuses with 0, told by the numbers f
@@ -43,6 +46,8 @@ zero-is-given =
       setting = λ f s n. told heldNumbers (settingOf f s n) (λ e. omega (arith, numbers-hold .setting f s n 0 e));
       spool = λ s room. told spoolNumbers (gives (requestsOf s room)) (λ e. let z : _≡_ {A = ℕ} 0 1 = cc in omega arith);
       respond = λ s. told answerNumbers (responseOf s) (λ e. false≢true (Response.numbers-hold s 0 e));
+      gateway = λ f s m h start len room.
+          told (forwardNumbers start len) (stepOf f s m h room) (λ e. false≢true (Gateway.numbers-hold f s m h room 0 e));
     }
 
 -- p is what the call gives
@@ -64,4 +69,6 @@ refusal-keeps =
           kept-by (fitting (writeGives b y (length out)) answer) (writeOf b y (length out)) out out′ r (a .answers .number) h (a .output);
       lengths = λ s d d′ answer answer′ r a h.
           kept-by (fitting (spoolGives s (length d)) answer) (gives (requestsOf s (length d) .lengths)) d d′ r (a .answers .number) h (a .stored);
+      scgi = λ f s m t out out′ answer answer′ r a h.
+          kept-by (fitting (gatewayGives f s m t (a .start) (a .len) (length out)) answer) (then (stepOf f s m t (length out)) (λ w. gives (w .scgi))) out out′ r (a .answers .number) h (a .output);
     }

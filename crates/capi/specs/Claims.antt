@@ -11,6 +11,7 @@ use Rattle.capi.specs.Find.{findGives}
 use Rattle.capi.specs.Setting.{settingGives}
 use Rattle.capi.specs.Spool.{spoolGives, SpoolAnswered}
 use Rattle.capi.specs.Respond.{responseGives}
+use Rattle.capi.specs.Forward.{gatewayGives, GatewayAnswered}
 
 -- the numbers that were given
 pub record Given (o : Outcome (List ℕ)) : Type 0 where
@@ -29,6 +30,7 @@ pub record ZeroIsGiven : Type 0 where
   pub setting : (facts site name : List ℕ) → ZeroGives (settingGives facts site name)
   pub spool : (bytes : List ℕ) (room : ℕ) → ZeroGives (spoolGives bytes room)
   pub respond : (script : List ℕ) → ZeroGives (responseGives script)
+  pub gateway : (facts site mounts http : List ℕ) (start len room : ℕ) → ZeroGives (gatewayGives facts site mounts http start len room)
 
 -- where a call does not return 0, nothing that was lent is changed: "Every refusal .. changes no byte of the output"
 pub record RefusalKeeps : Type 0 where
@@ -37,3 +39,6 @@ pub record RefusalKeeps : Type 0 where
   pub lengths :
       (bytes lengths lengths′ answer answer′ : List ℕ) (r : ℕ) → SpoolAnswered bytes lengths lengths′ answer answer′ r → (r ≡ 0 → ⊥)
       → lengths′ ≡ lengths
+  pub scgi :
+      (facts site mounts http out out′ answer answer′ : List ℕ) (r : ℕ) → GatewayAnswered facts site mounts http out out′ answer answer′ r
+      → (r ≡ 0 → ⊥) → out′ ≡ out
