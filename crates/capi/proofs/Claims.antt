@@ -9,21 +9,24 @@ use lib.Dec.{leb}
 use lib.ListN.{length}
 use Rattle.octets.specs.Outcome.{Outcome, refused, gives, then, need}
 use Rattle.scgi.specs.Read.{readOf}
-use Rattle.scgi.specs.Write.{writeOf}
+use Rattle.scgi.specs.Write.{writeOf, outputAfter}
 use Rattle.scgi.specs.Lookup.{lookupOf}
 use Rattle.scgi.specs.Setting.{settingOf}
 use Rattle.scgi.specs.Spool.{requestsOf}
 use Rattle.response.specs.Response.{responseOf}
 use Rattle.scgi.proofs.Claims.{numbers-hold}
 use Rattle.response.proofs.Claims as Response
+use Rattle.gateway.specs.Step.{stepOf}
+use Rattle.gateway.proofs.Claims as Gateway
 use Rattle.capi.specs.Answer.{fitting, returned}
 use Rattle.capi.specs.Read.{placesNumbers}
-use Rattle.capi.specs.Write.{countNumbers}
+use Rattle.capi.specs.Write.{countNumbers, writeGives}
 use Rattle.capi.specs.Find.{partNumbers}
 use Rattle.capi.specs.Setting.{heldNumbers}
-use Rattle.capi.specs.Spool.{spoolNumbers}
+use Rattle.capi.specs.Spool.{spoolNumbers, spoolGives}
 use Rattle.capi.specs.Respond.{answerNumbers}
-use Rattle.capi.specs.Claims.{Given, ZeroGives, ZeroIsGiven}
+use Rattle.capi.specs.Forward.{forwardNumbers, gatewayGives}
+use Rattle.capi.specs.Claims.{Given, ZeroGives, ZeroIsGiven, RefusalKeeps}
 
 -- a lower call that never refuses with 0, told by the numbers f
 told : {A : Type 0} (f : A → List ℕ) (o : Outcome A) → (o ≡ refused 0 → ⊥) → ZeroGives (then o (λ a. gives (f a)))
@@ -43,4 +46,29 @@ zero-is-given =
       setting = λ f s n. told heldNumbers (settingOf f s n) (λ e. omega (arith, numbers-hold .setting f s n 0 e));
       spool = λ s room. told spoolNumbers (gives (requestsOf s room)) (λ e. let z : _≡_ {A = ℕ} 0 1 = cc in omega arith);
       respond = λ s. told answerNumbers (responseOf s) (λ e. false≢true (Response.numbers-hold s 0 e));
+      gateway = λ f s m h start len room.
+          told (forwardNumbers start len) (stepOf f s m h room) (λ e. false≢true (Gateway.numbers-hold f s m h room 0 e));
+    }
+
+-- p is what the call gives
+kept : (p : Outcome (List ℕ)) (d after : List ℕ) (r : ℕ) → r ≡ returned p → (r ≡ 0 → ⊥) → after ≡ outputAfter p d → after ≡ d
+kept (refused n) d after r e h f = f
+kept (gives ns) d after r e h f = absurd (h e)
+
+-- .. and q what goes to another buffer
+kept-by :
+    (p q : Outcome (List ℕ)) (d after : List ℕ) (r : ℕ) → r ≡ returned p → (r ≡ 0 → ⊥) → after ≡ outputAfter (then p (λ ns. q)) d → after ≡ d
+kept-by (refused n) q d after r e h f = f
+kept-by (gives ns) q d after r e h f = absurd (h e)
+
+pub refusal-keeps : RefusalKeeps
+refusal-keeps =
+    record {
+      answer = λ o before after r a h. kept (fitting o before) before after r (a .number) h (a .list);
+      output = λ b y out out′ answer answer′ r a h.
+          kept-by (fitting (writeGives b y (length out)) answer) (writeOf b y (length out)) out out′ r (a .answers .number) h (a .output);
+      lengths = λ s d d′ answer answer′ r a h.
+          kept-by (fitting (spoolGives s (length d)) answer) (gives (requestsOf s (length d) .lengths)) d d′ r (a .answers .number) h (a .stored);
+      scgi = λ f s m t out out′ answer answer′ r a h.
+          kept-by (fitting (gatewayGives f s m t (a .start) (a .len) (length out)) answer) (then (stepOf f s m t (length out)) (λ w. gives (w .scgi))) out out′ r (a .answers .number) h (a .output);
     }

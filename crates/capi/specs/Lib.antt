@@ -5,4 +5,5 @@ pub mod Find
 pub mod Setting
 pub mod Spool
 pub mod Respond
+pub mod Forward
 pub mod Claims

@@ -9,3 +9,4 @@ pub mod find; // oy_scgi_find
 pub mod setting; // oy_setting
 pub mod spool; // oy_spool
 pub mod respond; // oy_response
+pub mod forward; // oy_gateway

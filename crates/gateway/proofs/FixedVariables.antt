@@ -26,7 +26,7 @@ abbrev pub orEmpty : Option (List ℕ) → List ℕ
 orEmpty none = []
 orEmpty (some v) = v
 
-printed-append : (a b : List Header) → printed (a ++ b) ≡ printed a ++ printed b
+pub printed-append : (a b : List Header) → printed (a ++ b) ≡ printed a ++ printed b
 unfolding printed
 printed-append [] b = refl
 printed-append (h ∷ a) b = rw (printed-append a b) (simp append-assoc)

@@ -16,3 +16,5 @@ pub mod Claims
 pub mod Puts
 pub mod FixedVariables
 pub mod FieldVariables
+pub mod Blocks
+pub mod StepParts

@@ -22,6 +22,7 @@ use Rattle.lent.specs.Lent.{Lent}
 use Rattle.gateway.specs.Fields.{lowered}
 use Rattle.gateway.specs.Meaning.{Meaning, meaningOf}
 use Rattle.gateway.specs.Variables.{variables, bytesOf}
+use Rattle.gateway.specs.Claims.{RoomIsLast}
 use Rattle.gateway.specs.Step.{rulesOf, Request, requestOf, Body, bodyOf, poolOf, Forward, writtenFor, forwardOf, stepWith}
 
 -- of a head
@@ -124,3 +125,7 @@ without-room lent http room f e =
     let a = then-gives (forwardOf lent http) (λ g. need (leb (length (g .scgi)) room) 21 (gives g)) f e in
     let c = need-gives (leb (length (a .it .scgi)) room) 21 (gives (a .it)) f (a .next) in
     rw (← gives-once (a .it) f (c .1)) (a .first)
+
+pub room-is-last : RoomIsLast
+unfolding stepWith
+room-is-last facts site mounts http room = refl

@@ -5,12 +5,25 @@ use mathlib.Core.Path.{_≡_, sym, ap, _∙_}
 use mathlib.Core.List.{List, [], _++_}
 use native.Mathlib.Nat.{add-zero}
 use native.Mathlib.Omega.{arith}
-use lib.ListN.{length, length-append}
+use lib.ListN.{length, take, length-append}
 use Rattle.octets.specs.Copy.{Wrote}
-use Rattle.octets.proofs.Copies.{and-then, length-over, over-nil}
+use Rattle.octets.proofs.Copies.{before, and-then, length-over, over-nil}
 use Rattle.gateway.specs.Put.{PutDone, fits, no-room}
 use Rattle.gateway.specs.declared.put.Put.{Put}
 use Rattle.gateway.specs.declared.put.Put.the-variants.{At, Full}
+
+-- what was written at a buffer's front stands there
+module _ {d w d′ : List ℕ} {n : ℕ} (room : length w ≤ length d) (x : Wrote d 0 w d′ n) where
+  room-there : 0 + length w ≤ length d
+  room-there = omega arith
+
+  pub wrote-front : take n d′ ≡ w
+  wrote-front = rw (x .ends, x .holds) (before d 0 w room-there)
+
+  pub wrote-inside : n ≤ length d′
+  wrote-inside =
+      let l : length d′ ≡ length d = ap length (x .holds) ∙ length-over d 0 w room-there in
+      omega (arith, x .ends)
 
 -- nothing to write
 pub put-none : (d : List ℕ) (at : ℕ) → at ≤ length d → PutDone d at [] d (At at)
@@ -33,3 +46,20 @@ module _ {d : List ℕ} {at : ℕ} {w d₁ : List ℕ} where
   -- where a write ended, the next can begin
   pub put-within : {n : ℕ} → PutDone d at w d₁ (At n) → n ≤ length d₁
   put-within (fits h p) = omega (arith, p .ends, same-length h p)
+
+  -- a write keeps the buffer's length
+  pub put-length : {r : Put} → PutDone d at w d₁ r → length d₁ ≡ length d
+  put-length (fits h p) = same-length h p
+  put-length (no-room h l) = l
+
+-- what was written at a buffer's front
+
+module _ {d w d₁ : List ℕ} where
+  pub put-front : {n : ℕ} → PutDone d 0 w d₁ (At n) → take n d₁ ≡ w
+  put-front (fits h p) = wrote-front (omega arith) p
+
+  pub put-small : {n : ℕ} → PutDone d 0 w d₁ (At n) → length w ≤ length d
+  put-small (fits h p) = omega arith
+
+  pub put-large : PutDone d 0 w d₁ Full → length d < length w
+  put-large (no-room h l) = omega arith

@@ -5,7 +5,9 @@ use mathlib.Core.Path.{_≡_}
 use mathlib.Core.Bool.{true}
 use mathlib.Core.Logic.{_↔_}
 use mathlib.Core.List.{List, [], _∷_}
-use Rattle.octets.specs.Outcome.{Outcome, refused, gives}
+use lib.Dec.{leb}
+use lib.ListN.{length}
+use Rattle.octets.specs.Outcome.{Outcome, refused, gives, then, need}
 use Rattle.octets.specs.Kinds.{oneOf}
 use Rattle.framing.specs.Claims.{Frames, SpoolsEqual, SpoolCut, SpoolGoesOn}
 use Rattle.scgi.specs.Block.{printed}
@@ -15,7 +17,7 @@ use Rattle.lent.specs.Mounts.{Route}
 use Rattle.lent.specs.Lent.{Lent, lentOf}
 use Rattle.gateway.specs.Meaning.{Meaning}
 use Rattle.gateway.specs.Variables.{variables}
-use Rattle.gateway.specs.Step.{Forward, meaningAt, stepOf, usedBy}
+use Rattle.gateway.specs.Step.{Forward, meaningAt, forwardOf, stepOf, usedBy}
 
 -- "Take any two HTTP requests accepted under equal settings, connection facts and mounts. The SCGI bytes written for them are equal
 -- exactly when their meanings are equal", whatever the outputs' lengths
@@ -51,6 +53,12 @@ pub record PipelinesHold (lent : Outcome Lent) : Type 0 where
 
 abbrev pub PipelinesFrame : Type 0
 PipelinesFrame = (facts site mounts : List ℕ) → PipelinesHold (lentOf facts site mounts)
+
+-- the room is looked at last, and 21 is all that hangs on it: "22; 21"
+abbrev pub RoomIsLast : Type 0
+RoomIsLast =
+    (facts site mounts http : List ℕ) (room : ℕ)
+    → stepOf facts site mounts http room ≡ then (forwardOf (lentOf facts site mounts) http) (λ f. need (leb (length (f .scgi)) room) 21 (gives f))
 
 -- the step's numbers: "20; then 11 or 1; 12; 13; 14; 15; 16; 17; 18; 19; 9; 1 for a short body; 22; 21"
 abbrev pub stepNumbers : List ℕ

@@ -27,5 +27,6 @@ abbrev pub serverBytes : List ℕ → List ℕ → List ℕ → List ℕ → Lis
 serverBytes script name port version software =
     variable (bytes "SCRIPT_NAME") script
     ++ variable (bytes "SERVER_NAME") name
-    ++ (variable (bytes "SERVER_PORT") port ++ variable (bytes "SERVER_PROTOCOL") version)
+    ++ variable (bytes "SERVER_PORT") port
+    ++ variable (bytes "SERVER_PROTOCOL") version
     ++ variable (bytes "SERVER_SOFTWARE") software

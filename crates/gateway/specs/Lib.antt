@@ -8,3 +8,5 @@ pub mod Claims
 pub mod Put
 pub mod FixedBytes
 pub mod FieldVariables
+pub mod Block
+pub mod Stepping

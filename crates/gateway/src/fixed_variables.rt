@@ -1,12 +1,15 @@
 // The variables before the fields, in four writes.
 ghost use Prim.Native.Nat.{_≤_};
 ghost use lib.ListN.{length};
-ghost use Rattle.gateway.specs.Put.{PutDone};
+ghost use Rattle.lent.specs.Places.{valueAt, ValueInside, SettingsInside};
+ghost use Rattle.gateway.specs.Put.{variable, PutDone};
 ghost use Rattle.gateway.specs.FixedBytes.{contentBytes, pathBytes, requestBytes, serverBytes};
 use crate::put::Put;
 use crate::put::put_optional;
 use crate::put::put_two;
 use crate::put::put_variable;
+use lent::places::SettingPlaces;
+use lent::places::ValuePlace;
 
 // CONTENT_LENGTH, SCGI, and AUTH_TYPE and CONTENT_TYPE where they are there.
 pub fn put_content(
@@ -70,26 +73,53 @@ pub fn put_request(
     put_two(out, n, b"REQUEST_METHOD", method, b"REQUEST_URI", target)
 }
 
+// A variable whose value stands in the connection facts or in the site settings.
+fn put_setting(
+    out: &mut [u8],
+    at: usize,
+    name: &[u8],
+    facts: &[u8],
+    site: &[u8],
+    p: ValuePlace,
+) -> Put
+    requires { ⌜ (at ≤ length (now out)) × ValueInside (now facts) (now site) p ⌝ }
+    ensures { λ r. ⌜ PutDone (now (out .entry)) at (variable (now (name .entry)) (valueAt (now (facts .entry)) (now (site .entry)) p)) (now (out .exit)) r ⌝ }
+{
+    let start = p.start;
+    if p.site {
+        return put_variable(out, at, name, &site[start..start + p.len]);
+    }
+    put_variable(out, at, name, &facts[start..start + p.len])
+}
+
 // SCRIPT_NAME, SERVER_NAME, SERVER_PORT, SERVER_PROTOCOL, SERVER_SOFTWARE.
 pub fn put_server(
     out: &mut [u8],
     at: usize,
     script: &[u8],
-    name: &[u8],
-    port: &[u8],
+    facts: &[u8],
+    site: &[u8],
+    settings: SettingPlaces,
     version: &[u8],
-    software: &[u8],
 ) -> Put
-    requires { ⌜ at ≤ length (now out) ⌝ }
-    ensures { λ r. ⌜ PutDone (now (out .entry)) at (serverBytes (now (script .entry)) (now (name .entry)) (now (port .entry)) (now (version .entry)) (now (software .entry))) (now (out .exit)) r ⌝ }
+    requires { ⌜ (at ≤ length (now out)) × SettingsInside (now facts) (now site) settings ⌝ }
+    ensures { λ r. ⌜ PutDone (now (out .entry)) at (serverBytes (now (script .entry)) (valueAt (now (facts .entry)) (now (site .entry)) (settings .name)) (valueAt (now (facts .entry)) (now (site .entry)) (settings .port)) (now (version .entry)) (valueAt (now (facts .entry)) (now (site .entry)) (settings .software))) (now (out .exit)) r ⌝ }
 {
-    let p = put_two(out, at, b"SCRIPT_NAME", script, b"SERVER_NAME", name);
+    let p = put_variable(out, at, b"SCRIPT_NAME", script);
     let Put::At(n) = p else {
         return Put::Full;
     };
-    let q = put_two(out, n, b"SERVER_PORT", port, b"SERVER_PROTOCOL", version);
+    let q = put_setting(out, n, b"SERVER_NAME", facts, site, settings.name);
     let Put::At(m) = q else {
         return Put::Full;
     };
-    put_variable(out, m, b"SERVER_SOFTWARE", software)
+    let r = put_setting(out, m, b"SERVER_PORT", facts, site, settings.port);
+    let Put::At(i) = r else {
+        return Put::Full;
+    };
+    let s = put_variable(out, i, b"SERVER_PROTOCOL", version);
+    let Put::At(j) = s else {
+        return Put::Full;
+    };
+    put_setting(out, j, b"SERVER_SOFTWARE", facts, site, settings.software)
 }

@@ -1,9 +1,8 @@
-// The values that connection facts and site settings give, by their places.
+// The values that the connection facts give, by their places.
 ghost use mathlib.Core.Path.{_≡_};
-ghost use Rattle.lent.specs.Places.{factAt, valueAt, FactInside, ValueInside, AuthInside, isGiven, authTypeAt, remoteUserAt};
+ghost use Rattle.lent.specs.Places.{factAt, FactInside, AuthInside, isGiven, authTypeAt, remoteUserAt};
 use crate::places::AuthPlaces;
 use crate::places::FactPlace;
-use crate::places::ValuePlace;
 
 // A value in the connection facts.
 pub fn fact<'a>(facts: &'a [u8], p: FactPlace) -> &'a [u8]
@@ -11,18 +10,6 @@ pub fn fact<'a>(facts: &'a [u8], p: FactPlace) -> &'a [u8]
     ensures { λ r. ⌜ now r ≡ factAt (now (facts .entry)) p ⌝ }
 {
     let start = p.start;
-    &facts[start..start + p.len]
-}
-
-// A value in the block that holds it.
-pub fn value<'a>(facts: &'a [u8], site: &'a [u8], p: ValuePlace) -> &'a [u8]
-    requires { ⌜ ValueInside (now facts) (now site) p ⌝ }
-    ensures { λ r. ⌜ now r ≡ valueAt (now (facts .entry)) (now (site .entry)) p ⌝ }
-{
-    let start = p.start;
-    if p.site {
-        return &site[start..start + p.len];
-    }
     &facts[start..start + p.len]
 }
 

@@ -1,0 +1,210 @@
+-- The parts in which the code makes the step are the step.
+-- Assumes nothing.
+use Prim.Native.Nat.{ℕ, min, _+_, _-_, _≤_, _<_}
+use mathlib.Core.Path.{_≡_, refl, sym, ap, subst, _∙_}
+use mathlib.Core.Bool.{Bool, true, false, false≢true}
+use mathlib.Core.List.{List, _++_}
+use native.Mathlib.Omega.{arith}
+use lib.Dec.{leb}
+use lib.ListN.{length, take, drop}
+use lib.Seq.{length-take-le}
+use borrow.Author.Tests.{leb-true, leb-false, le-leb, lt-leb}
+use Rattle.octets.specs.Outcome.{Outcome, refused, gives, then, need}
+use Rattle.octets.specs.Decimal.{cap}
+use Rattle.scgi.specs.Block.{Header, parsed, printed}
+use Rattle.scgi.specs.Grammar.{netstring}
+use Rattle.scgi.specs.Write.{inRoom, WrittenOut}
+use Rattle.scgi.specs.declared.write.Writing.{Writing}
+use Rattle.scgi.specs.declared.write.Writing.the-variants.{Bytes, Refused as WriteRefused}
+use Rattle.http.specs.Head.{headOf}
+use Rattle.lent.specs.Settings.{Settings}
+use Rattle.lent.specs.Mounts.{Route, mountFor, routeOf}
+use Rattle.lent.specs.Lent.{Lent, lentOf}
+use Rattle.gateway.specs.Meaning.{Meaning, meaningOf}
+use Rattle.gateway.specs.Variables.{variables, bytesOf}
+use Rattle.gateway.specs.Step.{Request, Body, Forward, requestOf, bodyOf, poolOf, writtenFor, forwardOf, stepWith, stepOf}
+use Rattle.gateway.specs.RequestRead.{cappedRequest}
+use Rattle.gateway.specs.Block.{routeAt}
+use Rattle.gateway.specs.Stepping.{Answer, answerOf, Stepped, bytesIn, forwardFrom, roomFor}
+use Rattle.gateway.specs.declared.step.Stepping.the-variants.{Written, Refused}
+
+-- The block and the body: 22; 21.
+
+module _ (block body d : List ℕ) where
+  pub too-large : 16384 < length block → WrittenOut (bytesIn block body (length d)) d d (WriteRefused 22)
+  too-large h =
+      let e = lt-leb (length block) 16384 h in
+      record { answer = rw e; output = rw e }
+
+  pub not-too-large : length block ≤ 16384 → bytesIn block body (length d) ≡ inRoom (netstring block ++ body) (length d)
+  not-too-large h = rw (le-leb (length block) 16384 h)
+
+-- A refusal leaves the output as it is.
+
+pub left-alone : (o : Outcome Forward) (mounts d : List ℕ) (k : ℕ) → o ≡ refused k → Stepped o mounts d d (Refused k)
+left-alone o mounts d k e = record { answer = rw e; pool = tt; output = rw e }
+
+-- The SCGI bytes that were written are those of the step.
+
+module _ (s : Settings) (r : Route) (m : Meaning) (pool : List ℕ) (used room : ℕ) where
+  abbrev forward : Forward
+  forward = record { scgi = bytesOf s r m; pool = pool; used = used }
+
+  abbrev counted : Outcome ℕ → Outcome Answer
+  counted o = then o (λ n. gives (record { written = n; pool = pool; used = used }))
+
+  abbrev bytes : Outcome (List ℕ)
+  bytes = bytesIn (printed (variables s r m)) (m .body) room
+
+  both-tests :
+      {A : Type 0} (g : Forward → A) (h : List ℕ → A) → g forward ≡ h (forward .scgi) → (t u : Bool)
+      → then (then (need t 22 (gives forward)) (λ f. need u 21 (gives f))) (λ f. gives (g f))
+      ≡ then (then (need t 22 (gives (forward .scgi))) (λ w. need u 21 (gives w))) (λ w. gives (h w))
+  both-tests g h e true true = ap gives e
+  both-tests g h e true false = refl
+  both-tests g h e false u = refl
+
+  by-bytes :
+      {A : Type 0} (g : Forward → A) (h : List ℕ → A) → g forward ≡ h (forward .scgi)
+      → then (roomFor room (writtenFor s r m pool used)) (λ f. gives (g f)) ≡ then bytes (λ w. gives (h w))
+  unfolding writtenFor
+  by-bytes g h e = tested (leb (length (printed (variables s r m))) 16384)
+    where
+      tested :
+          (t : Bool)
+          → then (roomFor room (need t 22 (gives forward))) (λ f. gives (g f))
+          ≡ then (then (need t 22 (gives (forward .scgi))) (λ w. inRoom w room)) (λ w. gives (h w))
+      tested true = both-tests g h e true (leb (length (forward .scgi)) room)
+      tested false = refl
+
+  bytes-again : (o : Outcome (List ℕ)) → then o (λ w. gives w) ≡ o
+  bytes-again (refused n) = refl
+  bytes-again (gives w) = refl
+
+  counts : (o : Outcome (List ℕ)) → counted (then o (λ w. gives (length w))) ≡ then o (λ w. gives (record { written = length w; pool = pool; used = used }))
+  counts (refused n) = refl
+  counts (gives w) = refl
+
+  scgi-is : then (roomFor room (writtenFor s r m pool used)) (λ f. gives (f .scgi)) ≡ bytes
+  scgi-is = by-bytes (λ f. f .scgi) (λ w. w) refl ∙ bytes-again bytes
+
+  answer-is : then (roomFor room (writtenFor s r m pool used)) (λ f. gives (answerOf f)) ≡ counted (then bytes (λ w. gives (length w)))
+  answer-is = by-bytes answerOf (λ w. record { written = length w; pool = pool; used = used }) refl ∙ sym (counts bytes)
+
+module _ (s : Settings) (r : Route) (m : Meaning) (mounts d after : List ℕ) (start len used : ℕ) where
+  abbrev pool : List ℕ
+  pool = take len (drop start mounts)
+
+  abbrev o : Outcome Forward
+  o = roomFor (length d) (writtenFor s r m pool used)
+
+  pub not-written :
+      (k : ℕ) → WrittenOut (bytesIn (printed (variables s r m)) (m .body) (length d)) d after (WriteRefused k) → Stepped o mounts d after (Refused k)
+  not-written k w =
+      record {
+        answer = ap (counted s r m pool used (length d)) (w .answer) ∙ sym (answer-is s r m pool used (length d));
+        pool = tt;
+        output = rw (scgi-is s r m pool used (length d)) (w .output);
+      }
+
+  pub has-written :
+      (n : ℕ) → start + len ≤ length mounts → WrittenOut (bytesIn (printed (variables s r m)) (m .body) (length d)) d after (Bytes n)
+      → Stepped o mounts d after (Written n start len used)
+  has-written n h w =
+      record {
+        answer = ap (counted s r m pool used (length d)) (w .answer) ∙ sym (answer-is s r m pool used (length d));
+        pool = h;
+        output = rw (scgi-is s r m pool used (length d)) (w .output);
+      }
+
+-- an answer of the writer is one of its two
+pub not-both : {k n : ℕ} → WriteRefused k ≡ Bytes n → ⊥
+not-both e = false≢true (ap isBytes e)
+  where
+    isBytes : Writing → Bool
+    isBytes (Bytes n) = true
+    isBytes (WriteRefused k) = false
+
+-- From the mount on: 19; 9; 1.
+
+pub route-is : (path : List ℕ) (n : ℕ) (pool : List ℕ) → n ≤ length path → routeAt path n ≡ routeOf (record { name = take n path; value = pool }) path
+route-is path n pool h = ap (λ (k : ℕ). record { scriptName = take n path; pathInfo = drop k path }) (sym (length-take-le n path h))
+
+-- the bytes that were written for the route of a path's first n bytes
+pub routed :
+    (s : Settings) (m : Meaning) (path : List ℕ) (n : ℕ) (pool d after : List ℕ) {w : Writing} → n ≤ length path
+    → WrittenOut (bytesIn (printed (variables s (routeAt path n) m)) (m .body) (length d)) d after w
+    → WrittenOut (bytesIn (printed (variables s (routeOf (record { name = take n path; value = pool }) path) m)) (m .body) (length d)) d after w
+routed s m path n pool d after {w} h x =
+    subst (λ (r : Route). WrittenOut (bytesIn (printed (variables s r m)) (m .body) (length d)) d after w) (route-is path n pool h) x
+
+module _ (s : Settings) (ms : Outcome (List Header)) (http : List ℕ) (h : ℕ) (q : Request) (room : ℕ) where
+  pub no-mount : (k : ℕ) → then ms (λ l. mountFor l (q .path)) ≡ refused k → roomFor room (forwardFrom s ms http h q) ≡ refused k
+  no-mount k e = rw e
+
+  module _ (m : Header) (e : then ms (λ l. mountFor l (q .path)) ≡ gives m) where
+    pub body-above : 1048576 < q .bodyLength → roomFor room (forwardFrom s ms http h q) ≡ refused 9
+    unfolding bodyOf
+    body-above b = rw (e, lt-leb (q .bodyLength) 1048576 b)
+
+    module _ (b : q .bodyLength ≤ 1048576) where
+      pub body-short : length http < h + q .bodyLength → roomFor room (forwardFrom s ms http h q) ≡ refused 1
+      unfolding bodyOf
+      body-short l = rw (e, le-leb (q .bodyLength) 1048576 b, lt-leb (h + q .bodyLength) (length http) l)
+
+      pub body-there :
+          h + q .bodyLength ≤ length http
+          → roomFor room (forwardFrom s ms http h q)
+          ≡ roomFor room (writtenFor s (routeOf m (q .path)) (meaningOf (q .first) (q .fields) (take (q .bodyLength) (drop h http))) (poolOf m) (h + q .bodyLength))
+      unfolding bodyOf
+      body-there l = rw (e, le-leb (q .bodyLength) 1048576 b, le-leb (h + q .bodyLength) (length http) l)
+
+-- The whole step.
+
+-- every length above the limit gives 9
+body-capped : (http : List ℕ) (h n : ℕ) → bodyOf http h (min n cap) ≡ bodyOf http h n
+unfolding bodyOf
+body-capped http h n = by (leb n 1048576) refl
+  where
+    by : (t : Bool) → leb n 1048576 ≡ t → bodyOf http h (min n cap) ≡ bodyOf http h n
+    by true e =
+        let z : n ≤ 1048576 = leb-true n 1048576 e in
+        let y : min n cap ≡ n = omega arith in
+        ap (bodyOf http h) y
+    by false e =
+        let z : 1048576 < n = leb-false n 1048576 e in
+        rw (e, lt-leb (min n cap) 1048576 (omega arith))
+
+module _ (s : Settings) (ms : List Header) (http : List ℕ) (h : ℕ) where
+  abbrev rest : Request → Outcome Forward
+  rest q =
+      then (mountFor ms (q .path)) (λ m.
+      then (bodyOf http h (q .bodyLength)) (λ b.
+      writtenFor s (routeOf m (q .path)) (meaningOf (q .first) (q .fields) (b .body)) (poolOf m) (b .used)))
+
+  capped-rest : (o : Outcome Request) → then o rest ≡ then (then o (λ q. gives (cappedRequest q))) (forwardFrom s (gives ms) http h)
+  capped-rest (refused n) = refl
+  capped-rest (gives q) =
+      ap
+      (λ (x : Outcome Body).
+      then (mountFor ms (q .path)) (λ m.
+      then x (λ b. writtenFor s (routeOf m (q .path)) (meaningOf (q .first) (q .fields) (b .body)) (poolOf m) (b .used))))
+      (sym (body-capped http h (q .bodyLength)))
+
+module _ (facts site mounts http : List ℕ) (room : ℕ) where
+  pub step-lent : (k : ℕ) → lentOf facts site mounts ≡ refused k → stepOf facts site mounts http room ≡ refused k
+  unfolding stepWith forwardOf
+  step-lent k e = rw e
+
+  module _ (s : Settings) (ms : List Header) (e : lentOf facts site mounts ≡ gives (record { settings = s; mounts = ms })) where
+    pub step-head : (k : ℕ) → headOf http ≡ refused k → stepOf facts site mounts http room ≡ refused k
+    unfolding stepWith forwardOf
+    step-head k f = rw (e, f)
+
+    pub step-request :
+        (h : ℕ) (o : Outcome Request) → parsed mounts ≡ gives ms → headOf http ≡ gives h
+        → o ≡ then (requestOf (take (h - 4) http)) (λ q. gives (cappedRequest q))
+        → stepOf facts site mounts http room ≡ roomFor room (then o (forwardFrom s (parsed mounts) http h))
+    unfolding stepWith forwardOf
+    step-request h o p f g =
+        rw (e, f, p) (ap (roomFor room) (capped-rest s ms http h (requestOf (take (h - 4) http)) ∙ ap (λ (x : Outcome Request). then x (forwardFrom s (gives ms) http h)) (sym g)))

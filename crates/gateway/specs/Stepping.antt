@@ -1,0 +1,59 @@
+-- The step's answer, and the output after it.
+-- Assumes nothing.
+use Prim.Native.Nat.{ℕ, _+_, _≤_}
+use mathlib.Core.Path.{_≡_}
+use mathlib.Core.List.{List, _++_}
+use lib.Dec.{leb}
+use lib.ListN.{length, take, drop}
+use Rattle.octets.specs.Outcome.{Outcome, refused, gives, then, need}
+use Rattle.scgi.specs.Block.{Header}
+use Rattle.scgi.specs.Grammar.{netstring}
+use Rattle.scgi.specs.Write.{inRoom, outputAfter}
+use Rattle.lent.specs.Settings.{Settings}
+use Rattle.lent.specs.Mounts.{mountFor, routeOf}
+use Rattle.gateway.specs.Meaning.{meaningOf}
+use Rattle.gateway.specs.Step.{Request, Forward, poolOf, bodyOf, writtenFor}
+use Rattle.gateway.specs.declared.step.Stepping.{Stepping}
+use Rattle.gateway.specs.declared.step.Stepping.the-variants.{Written, Refused}
+
+-- the step's answer in numbers, and the pool: "The answer also names the pool and the bytes used."
+pub record Answer : Type 0 where
+  pub written : ℕ
+  pub pool : List ℕ
+  pub used : ℕ
+
+abbrev pub answerOf : Forward → Answer
+answerOf f = record { written = length (f .scgi); pool = f .pool; used = f .used }
+
+-- what the code's answer says: the pool is a part of the mounts block
+abbrev pub steppingOutcome : List ℕ → Stepping → Outcome Answer
+steppingOutcome mounts (Written n s l u) = gives (record { written = n; pool = take l (drop s mounts); used = u })
+steppingOutcome mounts (Refused n) = refused n
+
+abbrev pub PoolInside : List ℕ → Stepping → Type 0
+PoolInside mounts (Written n s l u) = s + l ≤ length mounts
+PoolInside mounts (Refused n) = Unit {0}
+
+-- the answer r, and the output at exit, are those of what the step gives: "Success writes the first n bytes, reports n, and leaves the rest"; a
+-- refusal "changes no byte of the output"
+pub record Stepped (o : Outcome Forward) (mounts before after : List ℕ) (r : Stepping) : Type 0 where
+  pub answer : steppingOutcome mounts r ≡ then o (λ f. gives (answerOf f))
+  pub pool : PoolInside mounts r
+  pub output : after ≡ outputAfter (then o (λ f. gives (f .scgi))) before
+
+-- For the code, which makes the step in three parts.
+
+-- 22; 21: the SCGI bytes of a block and a body
+abbrev pub bytesIn : List ℕ → List ℕ → ℕ → Outcome (List ℕ)
+bytesIn block body room = then (need (leb (length block) 16384) 22 (gives (netstring block ++ body))) (λ w. inRoom w room)
+
+-- 19; 9; 1 for a short body; 22: of a request whose head has h bytes
+abbrev pub forwardFrom : Settings → Outcome (List Header) → List ℕ → ℕ → Request → Outcome Forward
+forwardFrom s mounts http h q =
+    then (then mounts (λ ms. mountFor ms (q .path))) (λ m.
+    then (bodyOf http h (q .bodyLength)) (λ b.
+    writtenFor s (routeOf m (q .path)) (meaningOf (q .first) (q .fields) (b .body)) (poolOf m) (b .used)))
+
+-- 21
+abbrev pub roomFor : ℕ → Outcome Forward → Outcome Forward
+roomFor room o = then o (λ f. need (leb (length (f .scgi)) room) 21 (gives f))
