@@ -28,12 +28,9 @@ programs:
 spool:
 	rt check spool
 
-# until the archive has oy_gateway, the example is left out and make run fails
 example: archive
 	@mkdir -p $(dir $(FRONT))
-	@if nm $(ARCHIVE) | grep ' T oy_gateway$$' >/dev/null; \
-	then $(CC) $(CFLAGS) $(WARNINGS) -Iinclude examples/front.c $(ARCHIVE) -o $(FRONT); \
-	else echo 'the archive has no oy_gateway: the example front end is left out'; fi
+	$(CC) $(CFLAGS) $(WARNINGS) -Iinclude examples/front.c $(ARCHIVE) -o $(FRONT)
 
 run: example spool
 	$(FRONT)
@@ -58,7 +55,7 @@ install: all
 	sed -e 's|@PREFIX@|$(PREFIX)|' -e 's|@VERSION@|$(VERSION)|' include/oyinkafubo.pc.in >$(TO)/lib/pkgconfig/oyinkafubo.pc
 	chmod 644 $(TO)/lib/pkgconfig/oyinkafubo.pc
 	install -m 755 target/bin/spool $(TO)/bin/oyinkafubo-spool
-	if [ -x $(FRONT) ]; then install -m 755 $(FRONT) $(TO)/bin/oyinkafubo-front; fi
+	install -m 755 $(FRONT) $(TO)/bin/oyinkafubo-front
 
 uninstall:
 	rm -f $(TO)/include/oyinkafubo.h $(TO)/lib/liboyinkafubo.a $(TO)/lib/pkgconfig/oyinkafubo.pc

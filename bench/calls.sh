@@ -5,11 +5,7 @@ set -euo pipefail
 cd "$(dirname "${BASH_SOURCE[0]}")/.."
 archive=$(realpath "${OY_ARCHIVE_DIR:-target/staticlib}")/libcapi.a
 [ -f "$archive" ] || { echo "$archive is not built: run make archive"; exit 1; }
-features=()
-if nm "$archive" | grep ' T oy_gateway$' >/dev/null; then
-    features=(--features gateway)
-fi
-cargo build --release --offline --quiet --manifest-path host/Cargo.toml "${features[@]}"
+cargo build --release --offline --quiet --manifest-path host/Cargo.toml
 programs=host/target/release
 "$programs/bench"
 

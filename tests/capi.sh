@@ -10,13 +10,6 @@ dir=$(mktemp -d)
 trap 'rm -rf "$dir"' EXIT
 passed=0
 failed=0
-features=(--features gateway)
-defines=()
-if ! nm "$folder/libcapi.a" | grep ' T oy_gateway$' >/dev/null; then
-    echo "the archive has no oy_gateway: its tests are left out"
-    features=()
-    defines=(-DOY_WITHOUT_GATEWAY)
-fi
 
 # add FILE PATTERN: adds the counts of each line of the file that has the pattern; without such a line that is one failure
 add() {
@@ -32,7 +25,7 @@ c_test() {
     local name=$1
     shift
     : >"$dir/c.out"
-    if cc -std=c89 -Wall -Wextra -Wpedantic -Werror -g -O1 "${flags[@]}" "${defines[@]}" -Iinclude host/c/test.c "$folder/libcapi.a" -o "$dir/test"; then
+    if cc -std=c89 -Wall -Wextra -Wpedantic -Werror -g -O1 "${flags[@]}" -Iinclude host/c/test.c "$folder/libcapi.a" -o "$dir/test"; then
         "$@" "$dir/test" >"$dir/c.out" 2>&1 || { cat "$dir/c.out"; echo "0 passed, 1 failed" >>"$dir/c.out"; }
     fi
     echo "C test, $name: $(tail -n 1 "$dir/c.out")"
@@ -51,7 +44,7 @@ if command -v valgrind >/dev/null; then
     c_test "under valgrind" valgrind -q --error-exitcode=1 --leak-check=full
 fi
 
-if ! cargo test --offline --quiet --manifest-path host/Cargo.toml "${features[@]}" >"$dir/rust.out" 2>&1; then
+if ! cargo test --offline --quiet --manifest-path host/Cargo.toml >"$dir/rust.out" 2>&1; then
     cat "$dir/rust.out"
     grep -q '^test result: FAILED' "$dir/rust.out" || echo "test result: not run; 0 passed; 1 failed" >>"$dir/rust.out"
 fi

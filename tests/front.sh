@@ -4,8 +4,6 @@ set -uo pipefail
 cd "$(dirname "${BASH_SOURCE[0]}")/.." || exit 2
 make -s example >/dev/null || { echo "the example does not build"; exit 1; }
 front=target/example/front
-# until the archive has oy_gateway
-[ -x "$front" ] || { echo "the archive has no oy_gateway: the example is not tested"; exit 0; }
 dir=$(mktemp -d)
 trap 'rm -rf "$dir"' EXIT
 bad=0

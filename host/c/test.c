@@ -188,7 +188,6 @@ static void test_spool(void)
     free(answer);
 }
 
-#ifndef OY_WITHOUT_GATEWAY
 static const char *const gateway_output =
     "267:CONTENT_LENGTH|0|SCGI|1|GATEWAY_INTERFACE|CGI/1.1|PATH_INFO|/7|QUERY_STRING|x=1|REMOTE_ADDR|10.0.0.9|"
     "REQUEST_METHOD|GET|REQUEST_URI|/jobs/7?x=1|SCRIPT_NAME|/jobs|SERVER_NAME|q.example|SERVER_PORT|80|"
@@ -221,7 +220,6 @@ static void test_gateway(void)
     free(http.at);
     free(answer);
 }
-#endif
 
 static void test_response(void)
 {
@@ -246,9 +244,7 @@ static void (*const tests[])(void) = {
     test_find,
     test_setting,
     test_spool,
-#ifndef OY_WITHOUT_GATEWAY
     test_gateway,
-#endif
     test_response,
 };
 

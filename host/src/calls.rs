@@ -109,7 +109,6 @@ impl Calls for Archive {
         }
     }
 
-    #[cfg(feature = "gateway")]
     #[rustfmt::skip]
     fn gateway(&self, blocks: Blocks, http: &[u8], out: &mut [u8], answer: &mut [u64]) -> u64 {
         let Blocks { facts, site, mounts } = blocks;
@@ -119,11 +118,6 @@ impl Calls for Archive {
                 http.as_ptr(), http.len(), out.as_mut_ptr(), out.len(), answer.as_mut_ptr(), answer.len(),
             )
         }
-    }
-
-    #[cfg(not(feature = "gateway"))]
-    fn gateway(&self, _: Blocks, _: &[u8], _: &mut [u8], _: &mut [u64]) -> u64 {
-        unimplemented!("the archive was linked without oy_gateway: build with --features gateway")
     }
 
     fn read_response(&self, script: &[u8], answer: &mut [u64]) -> u64 {

@@ -24,7 +24,6 @@ extern "C" {
         answer_len: usize,
     ) -> u64;
     pub fn oy_spool(bytes: *const u8, len: usize, lengths: *mut u64, lengths_len: usize, answer: *mut u64, answer_len: usize) -> u64;
-    #[cfg(feature = "gateway")]
     pub fn oy_gateway(
         facts: *const u8,
         facts_len: usize,

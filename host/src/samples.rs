@@ -113,7 +113,7 @@ fn spool_samples() -> Vec<Sample> {
     ]
 }
 
-/// Every sample, the ones of oy_gateway only where the archive has it.
+/// Every sample, ordered by call.
 pub fn all() -> Vec<Sample> {
     let mut samples = vec![
         Sample::new(Call::Read, "recorded", recorded_cases(Call::Read)),
@@ -131,7 +131,6 @@ pub fn all() -> Vec<Sample> {
         }
     }
     samples.extend(spool_samples());
-    samples.retain(|sample| cfg!(feature = "gateway") || sample.call != Call::Gateway);
     samples.sort_by_key(|sample| sample.call as usize);
     samples
 }

@@ -67,7 +67,6 @@ fn responses() {
     every_text(b"/.a%2F:?", 5, &mut |text| check([b"Location:", text, b"\n\n"].concat()));
 }
 
-#[cfg(feature = "gateway")]
 mod gateway {
     use super::{compare, every_text, Call, Case};
     use oyinkafubo_host::recorded;

@@ -103,7 +103,6 @@ fn whole_before(requests: &[Vec<u8>], cut: usize) -> (Vec<u64>, usize) {
     (lengths, left)
 }
 
-#[cfg(feature = "gateway")]
 mod gateway {
     use super::{parts, whole_before};
     use oyinkafubo_host::calls::{Archive, Blocks, Calls};

@@ -22,7 +22,6 @@ fn scgi_of_nginx() {
 }
 
 #[test]
-#[cfg(feature = "gateway")]
 fn http_of_curl() {
     check(Call::Gateway, 54);
 }

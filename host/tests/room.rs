@@ -80,7 +80,6 @@ fn output_of_the_writer() {
 }
 
 #[test]
-#[cfg(feature = "gateway")]
 fn output_of_the_gateway() {
     every_output_length(Call::Gateway);
 }
@@ -111,7 +110,6 @@ fn numbers_of_each_call() {
 }
 
 #[test]
-#[cfg(feature = "gateway")]
 fn numbers_of_the_gateway() {
     every_answer_length(Call::Gateway);
 }

@@ -78,7 +78,6 @@ fn responses() {
     }
 }
 
-#[cfg(feature = "gateway")]
 mod gateway {
     use oyinkafubo_host::calls::{Blocks, Calls};
     use oyinkafubo_host::case::sides;
