@@ -5,6 +5,7 @@ mod scgi_cases; // the reader, the writer and the lookups
 mod http_cases; // the parts of an HTTP head
 mod response_cases; // script response heads
 mod gateway_cases; // the step: whole outputs, mounts, fields, room
+mod gateway_lent; // the step: what it is lent
 
 fn main() {
     scgi_cases::reader();
@@ -25,4 +26,5 @@ fn main() {
     response_cases::longest_head();
     response_cases::too_long_head();
     gateway_cases::all();
+    gateway_lent::all();
 }
