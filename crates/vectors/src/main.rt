@@ -6,6 +6,7 @@ mod http_cases; // the parts of an HTTP head
 mod response_cases; // script response heads
 mod gateway_cases; // the step: whole outputs, mounts, fields, room
 mod gateway_lent; // the step: what it is lent
+mod gateway_order; // the step: the order of its refusals
 
 fn main() {
     scgi_cases::reader();
@@ -27,4 +28,5 @@ fn main() {
     response_cases::too_long_head();
     gateway_cases::all();
     gateway_lent::all();
+    gateway_order::all();
 }
