@@ -7,6 +7,7 @@ mod response_cases; // script response heads
 mod gateway_cases; // the step: whole outputs, mounts, fields, room
 mod gateway_lent; // the step: what it is lent
 mod gateway_order; // the step: the order of its refusals
+mod gateway_limits; // the step: its largest inputs
 
 fn main() {
     scgi_cases::reader();
@@ -29,4 +30,5 @@ fn main() {
     gateway_cases::all();
     gateway_lent::all();
     gateway_order::all();
+    gateway_limits::all();
 }
