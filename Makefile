@@ -1,6 +1,42 @@
-# make test: the whole gate. make check: prove what changed. make run: the program of vectors. make spool: the spool program. make bench:
-# the spool program beside cat and wc.
-.PHONY: test check run spool bench fmt clean
+# make            the archive, the programs and the example front end
+# make run        a recorded HTTP request through the example front end, and its SCGI bytes through the spool program
+# make test       the whole gate: proofs from nothing, edits that must be refused, programs, tests
+# make check      prove what changed
+# make bench      the archive beside the Rust implementation, and the spool program beside cat and wc
+# make install    header, archive, pkg-config file and programs below PREFIX (and DESTDIR); make uninstall takes them away
+# make fmt, make clean
+PREFIX ?= /usr/local
+CC ?= cc
+CFLAGS ?= -O2
+WARNINGS = -std=c89 -Wall -Wextra -Wpedantic -Werror
+ARCHIVE = target/staticlib/libcapi.a
+FRONT = target/example/front
+VERSION = 0.1.0
+TO = $(DESTDIR)$(PREFIX)
+
+.PHONY: all archive programs spool example run test check bench install uninstall fmt clean
+
+all: archive programs example
+
+# rt proves and builds only what changed
+archive:
+	rt staticlib capi
+
+programs:
+	rt check spool vectors
+
+spool:
+	rt check spool
+
+example: archive
+	@mkdir -p $(dir $(FRONT))
+	$(CC) $(CFLAGS) $(WARNINGS) -Iinclude examples/front.c $(ARCHIVE) -o $(FRONT)
+
+run: example spool
+	$(FRONT)
+	@echo
+	@echo 'the same bytes as a spool: the length of each request, and how the spool ends'
+	$(FRONT) --raw | target/bin/spool
 
 test:
 	bash .ci/run
@@ -8,17 +44,26 @@ test:
 check:
 	rt check
 
-run:
-	rt check vectors && target/bin/vectors
-
-spool:
-	rt check spool
-
-bench: spool
+bench: archive spool
+	bash bench/calls.sh
 	bash bench/spool.sh
+
+install: all
+	install -d $(TO)/include $(TO)/lib/pkgconfig $(TO)/bin
+	install -m 644 include/oyinkafubo.h $(TO)/include/oyinkafubo.h
+	install -m 644 $(ARCHIVE) $(TO)/lib/liboyinkafubo.a
+	sed -e 's|@PREFIX@|$(PREFIX)|' -e 's|@VERSION@|$(VERSION)|' include/oyinkafubo.pc.in >$(TO)/lib/pkgconfig/oyinkafubo.pc
+	chmod 644 $(TO)/lib/pkgconfig/oyinkafubo.pc
+	install -m 755 target/bin/spool $(TO)/bin/oyinkafubo-spool
+	install -m 755 $(FRONT) $(TO)/bin/oyinkafubo-front
+
+uninstall:
+	rm -f $(TO)/include/oyinkafubo.h $(TO)/lib/liboyinkafubo.a $(TO)/lib/pkgconfig/oyinkafubo.pc
+	rm -f $(TO)/bin/oyinkafubo-spool $(TO)/bin/oyinkafubo-front
 
 fmt:
 	rt fmt
+	cargo fmt --manifest-path host/Cargo.toml
 
 clean:
-	rm -rf target
+	rm -rf target host/target

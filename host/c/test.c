@@ -1,0 +1,264 @@
+/* Calls each function of the archive from C, with memory of exactly the length that is said and with null for empty memory. */
+#include "oyinkafubo.h"
+
+#include <stdio.h>
+#include <stdlib.h>
+#include <string.h>
+
+/* Bytes on the heap of exactly their length, so that the address sanitizer sees each access outside of them. */
+struct bytes {
+    uint8_t *at; /* null where len is 0 */
+    size_t len;
+};
+
+static unsigned faults;
+
+static void check(int holds, const char *what, int line)
+{
+    if (holds)
+        return;
+    faults++;
+    printf("test.c:%d: %s\n", line, what);
+}
+
+#define CHECK(condition) check((condition), #condition, __LINE__)
+
+static void *take(size_t size)
+{
+    void *memory = size == 0 ? NULL : malloc(size);
+    if (size != 0 && memory == NULL) {
+        fputs("no memory\n", stderr);
+        exit(2);
+    }
+    return memory;
+}
+
+static struct bytes room(size_t len)
+{
+    struct bytes bytes;
+    bytes.at = take(len);
+    bytes.len = len;
+    if (len != 0)
+        memset(bytes.at, 0xa5, len);
+    return bytes;
+}
+
+/* The text's bytes, with NUL for |. */
+static struct bytes text(const char *from)
+{
+    struct bytes bytes = room(strlen(from));
+    size_t i;
+    for (i = 0; i < bytes.len; i++)
+        bytes.at[i] = from[i] == '|' ? 0 : (uint8_t)from[i];
+    return bytes;
+}
+
+static int same(struct bytes a, const char *expected)
+{
+    struct bytes b = text(expected);
+    int equal = a.len >= b.len && (b.len == 0 || memcmp(a.at, b.at, b.len) == 0);
+    free(b.at);
+    return equal;
+}
+
+/* A list of numbers of exactly its length. */
+static uint64_t *list(size_t len)
+{
+    uint64_t *numbers = take(len * sizeof *numbers);
+    size_t i;
+    for (i = 0; i < len; i++)
+        numbers[i] = 77;
+    return numbers;
+}
+
+static const char *const example =
+    "70:CONTENT_LENGTH|27|SCGI|1|REQUEST_METHOD|POST|REQUEST_URI|/deepthought|,What is the answer to life?";
+
+/* A call over one piece of memory: the reader, or that of script responses. */
+typedef uint64_t one_input(const uint8_t *, size_t, uint64_t *, size_t);
+
+static uint64_t on_text(one_input *call, const char *from, uint64_t *answer, size_t answer_len)
+{
+    struct bytes bytes = text(from);
+    uint64_t code = call(bytes.at, bytes.len, answer, answer_len);
+    free(bytes.at);
+    return code;
+}
+
+static void test_read(void)
+{
+    uint64_t *answer = list(OY_READ_NUMBERS);
+    CHECK(on_text(oy_scgi_read, "", answer, 5) == OY_CUT);
+    CHECK(on_text(oy_scgi_read, "0", answer, 5) == OY_CUT);
+    CHECK(on_text(oy_scgi_read, "05", answer, 5) == OY_LENGTH);
+    CHECK(on_text(oy_scgi_read, ":", answer, 5) == OY_LENGTH);
+    CHECK(on_text(oy_scgi_read, "16385", answer, 5) == OY_BLOCK_LONG);
+    CHECK(on_text(oy_scgi_read, "0:x", answer, 5) == OY_COMMA);
+    CHECK(on_text(oy_scgi_read, "1:|,", answer, 5) == OY_BLOCK);
+    CHECK(on_text(oy_scgi_read, "0:,", answer, 5) == OY_FIRST);
+    CHECK(answer[0] == 77 && answer[4] == 77);
+    CHECK(on_text(oy_scgi_read, example, answer, 4) == OY_ROOM);
+    CHECK(answer[0] == 77 && answer[3] == 77);
+    CHECK(on_text(oy_scgi_read, example, NULL, 0) == OY_ROOM);
+    CHECK(on_text(oy_scgi_read, example, answer, 5) == 0);
+    CHECK(answer[0] == 3 && answer[1] == 70 && answer[2] == 74 && answer[3] == 27 && answer[4] == 101);
+    free(answer);
+}
+
+static void test_write(void)
+{
+    struct bytes block = text("CONTENT_LENGTH|2|SCGI|1|"), body = text("hi");
+    size_t len;
+    uint64_t *answer = list(OY_WRITE_NUMBERS);
+    for (len = 0; len <= 32; len++) {
+        struct bytes out = room(len);
+        uint64_t code = oy_scgi_write(block.at, block.len, body.at, body.len, out.at, len, answer, 1);
+        CHECK(code == (len < 30 ? OY_ROOM : 0));
+        CHECK(answer[0] == (len < 30 ? 77u : 30u));
+        CHECK(len == 0 || code == 0 || out.at[0] == 0xa5);
+        CHECK(code != 0 || same(out, "24:CONTENT_LENGTH|2|SCGI|1|,hi"));
+        CHECK(len <= 30 || out.at[30] == 0xa5);
+        free(out.at);
+    }
+    CHECK(oy_scgi_write(block.at, block.len, NULL, 0, NULL, 0, answer, 1) == OY_BODY_LENGTH);
+    CHECK(oy_scgi_write(NULL, 0, NULL, 0, NULL, 0, NULL, 0) == OY_FIRST);
+    free(block.at);
+    free(body.at);
+    free(answer);
+}
+
+static void test_find(void)
+{
+    struct bytes block = text("A|1|B||A|2|"), a = text("A"), b = text("B");
+    uint64_t *answer = list(OY_FIND_NUMBERS);
+    CHECK(oy_scgi_find(block.at, block.len, a.at, a.len, answer, 3) == 0);
+    CHECK(answer[0] == 1 && answer[1] == 2 && answer[2] == 1);
+    CHECK(oy_scgi_find(block.at, block.len, b.at, b.len, answer, 3) == 0);
+    CHECK(answer[0] == 1 && answer[1] == 6 && answer[2] == 0);
+    CHECK(oy_scgi_find(NULL, 0, NULL, 0, answer, 3) == 0);
+    CHECK(answer[0] == 0 && answer[1] == 0 && answer[2] == 0);
+    CHECK(oy_scgi_find(a.at, a.len, NULL, 0, answer, 3) == OY_BLOCK);
+    CHECK(oy_scgi_find(block.at, block.len, a.at, a.len, NULL, 0) == OY_ROOM);
+    free(block.at);
+    free(a.at);
+    free(b.at);
+    free(answer);
+}
+
+static void test_setting(void)
+{
+    struct bytes facts = text("A|1|"), site = text("D|33|A|2|"), a = text("A"), d = text("D");
+    uint64_t *answer = list(OY_SETTING_NUMBERS);
+    CHECK(oy_setting(facts.at, facts.len, site.at, site.len, d.at, d.len, answer, 3) == 0);
+    CHECK(answer[0] == 2 && answer[1] == 2 && answer[2] == 2);
+    CHECK(oy_setting(facts.at, facts.len, site.at, site.len, a.at, a.len, answer, 3) == 0);
+    CHECK(answer[0] == 1 && answer[1] == 2 && answer[2] == 1);
+    CHECK(oy_setting(NULL, 0, NULL, 0, NULL, 0, answer, 3) == 0);
+    CHECK(answer[0] == 0 && answer[1] == 0 && answer[2] == 0);
+    CHECK(oy_setting(facts.at, facts.len, a.at, a.len, a.at, a.len, answer, 3) == OY_BLOCK);
+    CHECK(oy_setting(facts.at, facts.len, NULL, 0, a.at, a.len, NULL, 0) == OY_ROOM);
+    free(facts.at);
+    free(site.at);
+    free(a.at);
+    free(d.at);
+    free(answer);
+}
+
+static void test_spool(void)
+{
+    struct bytes one = text(example), two = room(2 * 101 + 1);
+    uint64_t *lengths = list(3), *answer = list(OY_SPOOL_NUMBERS);
+    memcpy(two.at, one.at, 101);
+    memcpy(two.at + 101, one.at, 101);
+    two.at[202] = 'x';
+    CHECK(oy_spool(NULL, 0, NULL, 0, answer, 3) == 0);
+    CHECK(answer[0] == 0 && answer[1] == OY_END_WHOLE && answer[2] == 0);
+    CHECK(oy_spool(two.at, 203, lengths, 3, answer, 2) == OY_ROOM);
+    CHECK(lengths[0] == 77);
+    CHECK(oy_spool(two.at, 203, NULL, 0, answer, 3) == 0);
+    CHECK(answer[0] == 0 && answer[1] == OY_END_FULL);
+    CHECK(oy_spool(two.at, 203, lengths, 3, answer, 3) == 0);
+    CHECK(answer[0] == 2 && answer[1] == OY_END_REFUSED && answer[2] == OY_LENGTH);
+    CHECK(lengths[0] == 101 && lengths[1] == 101 && lengths[2] == 77);
+    CHECK(oy_spool(two.at, 201, lengths, 3, answer, 3) == 0);
+    CHECK(answer[0] == 1 && answer[1] == OY_END_CUT && answer[2] == 0);
+    free(one.at);
+    free(two.at);
+    free(lengths);
+    free(answer);
+}
+
+static const char *const gateway_output =
+    "267:CONTENT_LENGTH|0|SCGI|1|GATEWAY_INTERFACE|CGI/1.1|PATH_INFO|/7|QUERY_STRING|x=1|REMOTE_ADDR|10.0.0.9|"
+    "REQUEST_METHOD|GET|REQUEST_URI|/jobs/7?x=1|SCRIPT_NAME|/jobs|SERVER_NAME|q.example|SERVER_PORT|80|"
+    "SERVER_PROTOCOL|HTTP/1.1|SERVER_SOFTWARE|gate/1|HTTP_HOST|q.example|,";
+
+static void test_gateway(void)
+{
+    struct bytes facts = text("REMOTE_ADDR|10.0.0.9|"), mounts = text("/jobs|pool|");
+    struct bytes site = text("SERVER_NAME|q.example|SERVER_PORT|80|SERVER_SOFTWARE|gate/1|");
+    struct bytes http = text("GET /jobs/7?x=1 HTTP/1.1\r\nHost: q.example\r\n\r\n");
+    uint64_t *answer = list(OY_GATEWAY_NUMBERS);
+    size_t len;
+    for (len = 0; len <= 274; len++) {
+        struct bytes out = room(len);
+        uint64_t code = oy_gateway(facts.at, facts.len, site.at, site.len, mounts.at, mounts.len, http.at, http.len, out.at,
+                                   len, answer, 4);
+        CHECK(code == (len < 272 ? OY_ROOM : 0));
+        CHECK(len == 0 || code == 0 || (out.at[0] == 0xa5 && out.at[len - 1] == 0xa5));
+        CHECK(code != 0 || same(out, gateway_output));
+        CHECK(len <= 272 || out.at[272] == 0xa5);
+        free(out.at);
+    }
+    CHECK(answer[0] == 272 && answer[1] == 6 && answer[2] == 4 && answer[3] == 45);
+    CHECK(oy_gateway(NULL, 0, NULL, 0, NULL, 0, NULL, 0, NULL, 0, NULL, 0) == OY_LENT);
+    CHECK(oy_gateway(facts.at, facts.len, site.at, site.len, NULL, 0, NULL, 0, NULL, 0, NULL, 0) == OY_CUT);
+    CHECK(oy_gateway(facts.at, facts.len, site.at, site.len, NULL, 0, http.at, http.len, NULL, 0, answer, 4) == OY_MOUNT);
+    free(facts.at);
+    free(site.at);
+    free(mounts.at);
+    free(http.at);
+    free(answer);
+}
+
+static void test_response(void)
+{
+    uint64_t *answer = list(OY_RESPONSE_NUMBERS);
+    CHECK(on_text(oy_response, "", answer, 6) == OY_RESPONSE);
+    CHECK(on_text(oy_response, "\n", answer, 6) == OY_CONTRADICTION);
+    CHECK(on_text(oy_response, "Location: /x\n\n", answer, 5) == OY_ROOM);
+    CHECK(answer[0] == 77 && answer[5] == 77);
+    CHECK(on_text(oy_response, "Location: /x\n\n", answer, 6) == 0);
+    CHECK(answer[0] == OY_SERVE && answer[1] == 0 && answer[2] == 10 && answer[3] == 2 && answer[4] == 14 && answer[5] == 0);
+    CHECK(on_text(oy_response, "Location: a:b\n\n", answer, 6) == 0);
+    CHECK(answer[0] == OY_REDIRECT && answer[1] == 302);
+    CHECK(on_text(oy_response, "Status: 200 OK\r\nContent-Type: text/plain\r\n\r\n42", answer, 6) == 0);
+    CHECK(answer[0] == OY_DOCUMENT && answer[1] == 200 && answer[2] == 0 && answer[3] == 0);
+    CHECK(answer[4] == 44 && answer[5] == 2);
+    free(answer);
+}
+
+static void (*const tests[])(void) = {
+    test_read,
+    test_write,
+    test_find,
+    test_setting,
+    test_spool,
+    test_gateway,
+    test_response,
+};
+
+int main(void)
+{
+    unsigned passed = 0, failed = 0, i;
+    for (i = 0; i < sizeof tests / sizeof tests[0]; i++) {
+        faults = 0;
+        tests[i]();
+        if (faults == 0)
+            passed++;
+        else
+            failed++;
+    }
+    printf("%u passed, %u failed\n", passed, failed);
+    return failed == 0 ? 0 : 1;
+}

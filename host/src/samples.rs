@@ -1,0 +1,136 @@
+//! Inputs of the benchmarks.
+use crate::calls::{Archive, Calls};
+use crate::case::{before, numbers_before, run, Call, Case, Room};
+use crate::generate::{block, pair};
+use crate::recorded;
+use crate::refusal::{MAX_BODY, MAX_FIELDS, MAX_HEADERS};
+use crate::text;
+use std::hint::black_box;
+
+/// Cases of one call that are run one after the other.
+pub struct Sample {
+    pub call: Call,
+    pub input: &'static str,
+    pub cases: Vec<Case>,
+}
+
+impl Sample {
+    fn new(call: Call, input: &'static str, cases: Vec<Case>) -> Self {
+        Sample { call, input, cases }
+    }
+
+    /// Bytes of all inputs together, without the lent blocks of the gateway.
+    pub fn bytes(&self) -> usize {
+        let lent = if self.call == Call::Gateway { 3 } else { 0 };
+        self.cases.iter().flat_map(|case| &case.inputs[lent..]).map(Vec::len).sum()
+    }
+
+    /// Runs each case `times` times on one side.
+    pub fn repeat(&self, side: &dyn Calls, times: usize) {
+        for case in &self.cases {
+            let inputs: Vec<&[u8]> = case.inputs.iter().map(|input| &input[..]).collect();
+            let mut out = before(case.room);
+            let mut lengths = numbers_before(if case.call == Call::Spool { case.room } else { 0 });
+            let mut answer = [0; 6];
+            for _ in 0..times {
+                let room = Room { out: &mut out, lengths: &mut lengths, answer: &mut answer };
+                let code = run(side, case.call, black_box(&inputs), room);
+                assert_eq!(black_box(code), 0, "{}: {} is refused", self.call.name(), self.input);
+            }
+        }
+    }
+}
+
+/// Sizes that every kind of request is made in: its name, headers or fields, and body bytes.
+const SIZES: [(&str, usize, usize); 4] =
+    [("10 fields, about 500 bytes", 10, 0), ("64 fields", MAX_FIELDS, 0), ("128 headers", MAX_HEADERS, 0), ("1 MiB body", 10, MAX_BODY)];
+
+/// A block with this many headers, about 59 bytes each.
+fn scgi_block(headers: usize, body_len: usize) -> Vec<u8> {
+    let mut pairs = vec![pair("CONTENT_LENGTH", body_len.to_string().as_bytes()), pair("SCGI", b"1")];
+    for at in 2..headers {
+        pairs.push(pair(&format!("HTTP_X_HEADER_NUMBER_{at}"), format!("value of the request's header no. {at}").as_bytes()));
+    }
+    block(&pairs)
+}
+
+fn scgi_request(headers: usize, body_len: usize) -> Vec<u8> {
+    let block = scgi_block(headers, body_len);
+    let mut bytes = format!("{}:", block.len()).into_bytes();
+    bytes.extend_from_slice(&block);
+    bytes.push(b',');
+    bytes.resize(bytes.len() + body_len, b'b');
+    bytes
+}
+
+/// Field lines, about 54 bytes each with their ends.
+fn field_lines(count: usize) -> String {
+    (0..count).map(|at| format!("X-Field-Number-{at}: value of the request's field no. {at}\r\n")).collect()
+}
+
+fn http_case(fields: usize, body_len: usize) -> Case {
+    let lines = field_lines(fields - 2);
+    let head = format!("POST /app/jobs/7?x=1 HTTP/1.1\r\nHost: q.example\r\nContent-Length: {body_len}\r\n{lines}\r\n");
+    let mut bytes = head.into_bytes();
+    bytes.resize(bytes.len() + body_len, b'b');
+    let room = bytes.len() + 20_000;
+    let mut inputs = recorded::blocks("10.0.0.9", "/app", "a");
+    inputs.push(bytes);
+    Case::new(Call::Gateway, inputs, room)
+}
+
+fn response_case(fields: usize, body_len: usize) -> Case {
+    let mut bytes = format!("Content-Type: text/plain\r\n{}\r\n", field_lines(fields - 1)).into_bytes();
+    bytes.resize(bytes.len() + body_len, b'b');
+    Case::new(Call::Response, vec![bytes], 0)
+}
+
+/// The recorded cases of the call that are accepted.
+fn recorded_cases(call: Call) -> Vec<Case> {
+    let accepted = recorded::all().into_iter().filter(|recorded| recorded.expected.is_ok());
+    accepted.map(|recorded| recorded.case).filter(|case| case.call == call).collect()
+}
+
+/// The recorded requests as blocks and bodies for the writer.
+fn recorded_writes() -> Vec<Case> {
+    let mut cases = Vec::new();
+    for case in recorded_cases(Call::Read) {
+        let bytes = &case.inputs[0];
+        if let Ok(places) = Archive.read(bytes) {
+            let [block, block_len, body, body_len, used] = places.numbers().map(|number| number as usize);
+            let inputs = vec![bytes[block..block + block_len].to_vec(), bytes[body..body + body_len].to_vec()];
+            cases.push(Case::new(Call::Write, inputs, used));
+        }
+    }
+    cases
+}
+
+fn spool_samples() -> Vec<Sample> {
+    let joined: Vec<u8> = recorded_cases(Call::Read).iter().flat_map(|case| case.inputs[0].clone()).collect();
+    vec![
+        Sample::new(Call::Spool, "recorded, end to end", vec![Case::new(Call::Spool, vec![joined], 100)]),
+        Sample::new(Call::Spool, "1,000 of 101 bytes", vec![Case::new(Call::Spool, vec![text::bytes(text::EXAMPLE).repeat(1000)], 1000)]),
+    ]
+}
+
+/// Every sample, ordered by call.
+pub fn all() -> Vec<Sample> {
+    let mut samples = vec![
+        Sample::new(Call::Read, "recorded", recorded_cases(Call::Read)),
+        Sample::new(Call::Write, "recorded", recorded_writes()),
+        Sample::new(Call::Gateway, "recorded", recorded_cases(Call::Gateway)),
+        Sample::new(Call::Response, "recorded", recorded_cases(Call::Response)),
+    ];
+    for (input, count, body_len) in SIZES {
+        samples.push(Sample::new(Call::Read, input, vec![Case::new(Call::Read, vec![scgi_request(count, body_len)], 0)]));
+        let parts = vec![scgi_block(count, body_len), vec![b'b'; body_len]];
+        samples.push(Sample::new(Call::Write, input, vec![Case::new(Call::Write, parts, 20_000 + body_len)]));
+        if count <= MAX_FIELDS {
+            samples.push(Sample::new(Call::Gateway, input, vec![http_case(count, body_len)]));
+            samples.push(Sample::new(Call::Response, input, vec![response_case(count, body_len)]));
+        }
+    }
+    samples.extend(spool_samples());
+    samples.sort_by_key(|sample| sample.call as usize);
+    samples
+}

@@ -1,0 +1,120 @@
+//! The archive against the independent implementation, call by call, on many inputs: what is given, what is written, what is left.
+use oyinkafubo_host::answers::{CUT, FULL, REFUSED, WHOLE};
+use oyinkafubo_host::case::{compare, Call, Observed};
+use oyinkafubo_host::generate;
+use oyinkafubo_host::random::Random;
+
+/// How often each number was given.
+struct Tally {
+    name: &'static str,
+    seen: [usize; 26],
+    total: usize,
+}
+
+impl Tally {
+    fn new(name: &'static str) -> Self {
+        Tally { name, seen: [0; 26], total: 0 }
+    }
+
+    fn count(&mut self, number: u64) {
+        self.seen[number as usize] += 1;
+        self.total += 1;
+    }
+
+    /// Each of the numbers was seen often enough, and no other but 0.
+    fn assert_seen(&self, numbers: &[usize]) {
+        println!("{}: of {} inputs, by number: {:?}", self.name, self.total, self.seen);
+        for number in 1..26 {
+            let seen = self.seen[number];
+            if numbers.contains(&number) {
+                assert!(seen >= 20, "{}: number {number} was seen only {seen} times", self.name);
+            } else {
+                assert_eq!(seen, 0, "{}: number {number} is not one of this call's", self.name);
+            }
+        }
+    }
+
+    /// At least a quarter of the inputs was accepted.
+    fn assert_accepted(&self) {
+        assert!(self.seen[0] * 4 >= self.total, "{}: only {} of {} accepted", self.name, self.seen[0], self.total);
+    }
+}
+
+/// Compares both sides on `count` cases of the call and hands each result to `each`.
+fn compare_many(call: Call, count: usize, mut each: impl FnMut(&Observed)) {
+    let mut random = Random::seeded(call.name());
+    for _ in 0..count {
+        each(&compare(&generate::case(&mut random, call)));
+    }
+}
+
+/// Compares many cases and holds the numbers seen to those that the call can give.
+fn check(call: Call, count: usize, numbers: &[usize]) {
+    let mut tally = Tally::new(call.name());
+    compare_many(call, count, |observed| tally.count(observed.code));
+    tally.assert_seen(numbers);
+    tally.assert_accepted();
+}
+
+#[test]
+fn read() {
+    check(Call::Read, 200_000, &[1, 2, 3, 4, 5, 6, 7, 8, 9, 10, 21]);
+}
+
+#[test]
+fn write() {
+    check(Call::Write, 150_000, &[3, 5, 6, 7, 8, 9, 10, 21, 23]);
+}
+
+#[test]
+fn find() {
+    check(Call::Find, 100_000, &[5, 21]);
+}
+
+#[test]
+fn setting() {
+    check(Call::Setting, 100_000, &[5, 21]);
+}
+
+/// A spool's endings are no refusals of the call: they stand in the answer, with the number of the request that was refused.
+#[test]
+fn spool() {
+    let mut given = Tally::new("spool");
+    let mut refused = Tally::new("spool, refused requests");
+    let mut endings = [0; 4];
+    compare_many(Call::Spool, 100_000, |observed| {
+        given.count(observed.code);
+        if observed.code == 0 {
+            endings[observed.answer[1] as usize] += 1;
+            refused.count(observed.answer[2]);
+        }
+    });
+    println!("spool: endings {endings:?}");
+    given.assert_seen(&[21]);
+    refused.assert_seen(&[2, 3, 4, 5, 6, 7, 8, 9, 10]);
+    for ending in [WHOLE, CUT, REFUSED, FULL] {
+        assert!(endings[ending as usize] > 1000, "ending {ending} is rare");
+    }
+}
+
+/// 22 is never given: with the limits of the head, of the target and of the blocks the variables stay below 16,384 bytes.
+#[test]
+fn gateway() {
+    check(Call::Gateway, 200_000, &[1, 9, 11, 12, 13, 14, 15, 16, 17, 18, 19, 20, 21]);
+}
+
+#[test]
+fn response() {
+    let mut tally = Tally::new("response");
+    let mut actions = [0; 5];
+    compare_many(Call::Response, 200_000, |observed| {
+        tally.count(observed.code);
+        if observed.code == 0 {
+            actions[observed.answer[0] as usize] += 1;
+        }
+    });
+    println!("response: actions {actions:?}");
+    tally.assert_seen(&[21, 24, 25]);
+    tally.assert_accepted();
+    assert!(actions[1..].iter().all(|&seen| seen > 1000), "an action is rare");
+}

@@ -1,0 +1,121 @@
+//! The archive against the independent implementation on every short input over a few bytes that matter.
+use oyinkafubo_host::case::{compare, Call, Case};
+
+/// Calls `each` with every text of at most `most` of the bytes.
+fn every_text(from: &[u8], most: usize, each: &mut impl FnMut(&[u8])) {
+    fn longer(text: &mut Vec<u8>, from: &[u8], most: usize, each: &mut impl FnMut(&[u8])) {
+        each(text);
+        if text.len() < most {
+            for &byte in from {
+                text.push(byte);
+                longer(text, from, most, each);
+                text.pop();
+            }
+        }
+    }
+    longer(&mut Vec::new(), from, most, each);
+}
+
+#[test]
+fn netstrings() {
+    every_text(b"01:,\0x", 6, &mut |text| {
+        compare(&Case::new(Call::Read, vec![text.to_vec()], 0));
+        compare(&Case::new(Call::Spool, vec![text.to_vec()], 1));
+    });
+}
+
+/// Texts in the place of the first value, and behind the two headers that a request must have.
+#[test]
+fn blocks_of_requests() {
+    every_text(b"01\0AS", 5, &mut |text| {
+        let first = [b"CONTENT_LENGTH\0", text, b"\0SCGI\x001\0"].concat();
+        let last = [b"CONTENT_LENGTH\x000\0SCGI\x001\0", text].concat();
+        for block in [first, last] {
+            let mut netstring = format!("{}:", block.len()).into_bytes();
+            netstring.extend_from_slice(&block);
+            netstring.extend_from_slice(b",xx");
+            compare(&Case::new(Call::Read, vec![netstring], 0));
+            compare(&Case::new(Call::Write, vec![block, b"x".to_vec()], 60));
+        }
+    });
+}
+
+#[test]
+fn lookup_in_blocks() {
+    every_text(b"\0AB", 6, &mut |block| {
+        every_text(b"\0AB", 2, &mut |name| {
+            compare(&Case::new(Call::Find, vec![block.to_vec(), name.to_vec()], 0));
+        });
+    });
+    every_text(b"\0AB", 4, &mut |facts| {
+        every_text(b"\0AB", 4, &mut |site| {
+            compare(&Case::new(Call::Setting, vec![facts.to_vec(), site.to_vec(), b"A".to_vec()], 0));
+        });
+    });
+}
+
+/// Texts as lines, as a status, and as a Location.
+#[test]
+fn responses() {
+    let check = |bytes: Vec<u8>| drop(compare(&Case::new(Call::Response, vec![bytes], 0)));
+    every_text(b"A:\r\n _", 5, &mut |text| {
+        check(text.to_vec());
+        check([text, b"\nContent-Type: t\n\n"].concat());
+        check([b"Content-Type: t", text, b"\n\nbody"].concat());
+    });
+    every_text(b"0256 x", 5, &mut |text| check([b"Content-Type: t\nStatus:", text, b"\n\n"].concat()));
+    every_text(b"/.a%2F:?", 5, &mut |text| check([b"Location:", text, b"\n\n"].concat()));
+}
+
+mod gateway {
+    use super::{compare, every_text, Call, Case};
+    use oyinkafubo_host::recorded;
+
+    fn check(http: Vec<u8>) {
+        let mut inputs = recorded::blocks("10.0.0.9", "/a", "pool");
+        inputs.push(http);
+        compare(&Case::new(Call::Gateway, inputs, 300));
+    }
+
+    #[test]
+    fn targets() {
+        every_text(b"/.a%2F?", 5, &mut |text| check([b"GET /a", text, b" HTTP/1.0\r\n\r\n"].concat()));
+    }
+
+    #[test]
+    fn request_lines() {
+        every_text(b" /G\r\n1", 5, &mut |text| {
+            check([text, b" /a HTTP/1.0\r\n\r\n"].concat());
+            check([b"GET /a HTTP/1.", text, b"\r\n\r\n"].concat());
+            check([b"GET", text, b"HTTP/1.0\r\n\r\n"].concat());
+        });
+    }
+
+    #[test]
+    fn field_lines() {
+        every_text(b"A:_ \t\r\n-", 5, &mut |text| check([b"GET /a HTTP/1.0\r\n", text, b"\r\nA: x\r\n\r\n"].concat()));
+    }
+
+    #[test]
+    fn content_lengths() {
+        every_text(b"01, x", 5, &mut |text| check([b"GET /a HTTP/1.0\r\nContent-Length:", text, b"\r\n\r\nxx"].concat()));
+    }
+
+    /// Every port and every text of a mount, over a few bytes.
+    #[test]
+    fn lent_blocks() {
+        let http = b"GET /a HTTP/1.0\r\n\r\n";
+        every_text(b"0156/", 5, &mut |text| {
+            let mut inputs = recorded::blocks("10.0.0.9", "/a", "pool");
+            inputs[1] = [b"SERVER_NAME\0q\0SERVER_SOFTWARE\0g\0SERVER_PORT\0", text, b"\0"].concat();
+            inputs.push(http.to_vec());
+            compare(&Case::new(Call::Gateway, inputs, 300));
+        });
+        every_text(b"/a\0.", 6, &mut |text| {
+            let mut inputs = recorded::blocks("10.0.0.9", "/a", "pool");
+            inputs[2] = text.to_vec();
+            inputs.push(http.to_vec());
+            compare(&Case::new(Call::Gateway, inputs, 300));
+        });
+    }
+}

@@ -1,0 +1,153 @@
+//! The bytes that the rules name, on both sides.
+use oyinkafubo_host::answers::{Places, WHOLE};
+use oyinkafubo_host::case::sides;
+use oyinkafubo_host::text::{bytes, EXAMPLE};
+
+const EXAMPLE_PLACES: Places = Places { block_start: 3, block_len: 70, body_start: 74, body_len: 27, used: 101 };
+
+#[test]
+fn refused_by_the_reader() {
+    let cases = [("", 1), ("0", 1), ("05", 2), (":", 2), ("16385", 3), ("0:,", 8), ("0:x", 4), (&EXAMPLE[..100], 1)];
+    for (name, side) in sides() {
+        for (text, number) in cases {
+            assert_eq!(side.read(&bytes(text)), Err(number), "{name}: {text}");
+        }
+    }
+}
+
+#[test]
+fn the_example_of_the_scgi_text() {
+    let example = bytes(EXAMPLE);
+    let followed = [&example[..], b"x"].concat();
+    for (name, side) in sides() {
+        assert_eq!(side.read(&example), Ok(EXAMPLE_PLACES), "{name}");
+        assert_eq!(side.read(&followed), Ok(EXAMPLE_PLACES), "{name}, followed by a byte");
+        let (block, body) = (&example[3..73], &example[74..]);
+        let mut out = [0; 101];
+        assert_eq!(side.write(block, body, &mut out).map(|written| written.bytes), Ok(101), "{name}");
+        assert_eq!(&out[..], example, "{name}");
+    }
+}
+
+#[test]
+fn the_example_as_a_spool() {
+    for (name, side) in sides() {
+        let mut lengths = [7; 3];
+        let end = side.spool(&bytes(EXAMPLE), &mut lengths).expect("a spool has an ending");
+        assert_eq!((end.stored, end.ending, end.number, lengths), (1, WHOLE, 0, [101, 7, 7]), "{name}");
+        let end = side.spool(b"", &mut []).expect("a spool has an ending");
+        assert_eq!((end.stored, end.ending, end.number), (0, WHOLE, 0), "{name}");
+    }
+}
+
+/// Of equal names the first counts; an empty value is there; an absent name is not, and its part is empty.
+#[test]
+fn lookup() {
+    let (block, site) = (bytes("A|1|B||A|2|"), bytes("A|9|D|3|"));
+    for (name, side) in sides() {
+        let find = |name: &[u8]| side.find(&block, name).map(|found| found.numbers());
+        assert_eq!(find(b"A"), Ok([1, 2, 1]), "{name}");
+        assert_eq!(find(b"B"), Ok([1, 6, 0]), "{name}");
+        assert_eq!(find(b"C"), Ok([0, 0, 0]), "{name}");
+        assert_eq!(side.find(b"A\0", b"A").map(|found| found.there), Err(5), "{name}");
+        let setting = |name: &[u8]| side.setting(&block, &site, name).map(|found| found.numbers());
+        assert_eq!(setting(b"A"), Ok([1, 2, 1]), "{name}");
+        assert_eq!(setting(b"D"), Ok([2, 6, 1]), "{name}");
+        assert_eq!(setting(b"E"), Ok([0, 0, 0]), "{name}");
+        assert_eq!(side.setting(&block, b"\0", b"A").map(|found| found.origin), Err(5), "{name}");
+    }
+}
+
+#[test]
+fn responses() {
+    let cases = [
+        ("Status: 200 OK\r\nContent-Type: text/plain\r\n\r\n42", Ok([4, 200, 0, 0, 44, 2])),
+        ("Location: /x\n\n", Ok([1, 0, 10, 2, 14, 0])),
+        ("Location: http://q/x\n\n", Ok([2, 302, 10, 10, 22, 0])),
+        ("Location: a:b\nStatus: 301\nContent-Type: t\n\nx", Ok([3, 301, 10, 3, 43, 1])),
+        ("Location: /x\nX: y\n\n", Err(25)),
+        ("Location: /x\n\nbody", Err(25)),
+        ("\n", Err(25)),
+        ("HTTP/1.1 200 OK\n\n", Err(24)),
+    ];
+    for (name, side) in sides() {
+        for (script, expected) in cases {
+            let given = side.response(script.as_bytes()).map(|action| action.numbers());
+            assert_eq!(given, expected, "{name}: {script}");
+        }
+    }
+}
+
+mod gateway {
+    use oyinkafubo_host::calls::{Blocks, Calls};
+    use oyinkafubo_host::case::sides;
+    use oyinkafubo_host::recorded;
+    use oyinkafubo_host::text::bytes;
+
+    const WHOLE_OUTPUT: &str = "267:CONTENT_LENGTH|0|SCGI|1|GATEWAY_INTERFACE|CGI/1.1|PATH_INFO|/7|QUERY_STRING|x=1|REMOTE_ADDR|10.0.0.9|\
+        REQUEST_METHOD|GET|REQUEST_URI|/jobs/7?x=1|SCRIPT_NAME|/jobs|SERVER_NAME|q.example|SERVER_PORT|80|SERVER_PROTOCOL|HTTP/1.1|\
+        SERVER_SOFTWARE|gate/1|HTTP_HOST|q.example|,";
+
+    /// The numbers of the answer, or the refusal, and the output.
+    fn forward(side: &dyn Calls, http: &[u8]) -> (Result<[u64; 4], u8>, Vec<u8>) {
+        let lent = recorded::blocks("10.0.0.9", "/jobs", "pool");
+        let blocks = Blocks { facts: &lent[0], site: &lent[1], mounts: &lent[2] };
+        let mut out = vec![0; 1000];
+        let given = side.forward(blocks, http, &mut out);
+        (given.map(|forwarded| forwarded.numbers()), out)
+    }
+
+    #[test]
+    fn the_whole_output_of_272_bytes() {
+        let http = b"GET /jobs/7?x=1 HTTP/1.1\r\nHost: q.example\r\n\r\n";
+        for (name, side) in sides() {
+            let (given, out) = forward(side, http);
+            assert_eq!(given, Ok([272, 6, 4, 45]), "{name}");
+            assert_eq!(&out[..272], bytes(WHOLE_OUTPUT), "{name}");
+            assert!(out[272..].iter().all(|&byte| byte == 0), "{name}: bytes past the output");
+        }
+    }
+
+    /// The refusals and the order of two faults.
+    #[test]
+    fn refused() {
+        let cases: [(&[u8], u8); 13] = [
+            (b"GET /a%2Fb HTTP/1.1\r\nHost: q\r\n\r\n", 14),
+            (b"GET /jobsx HTTP/1.1\r\nHost: q\r\n\r\n", 19),
+            (b"GET /jobs HTTP/1.1\r\nHost: q\r\n", 1),
+            (b"GET  HTTP/1.1\r\n\r\n", 14),
+            (b"GET  HTTP/1.2\r\n\r\n", 13),
+            (b"GET /jobs HTTP/1.10\r\n\r\n", 12),
+            (b"GET /jobs HTTP/1.1\r\n\r\n", 16),
+            (b"GET /jobs HTTP/1.1\r\nHost: q\r\nJob_Id: 1\r\n\r\n", 15),
+            (b"GET /jobs HTTP/1.0\r\nContent-Length: 5, 5\r\n\r\n", 17),
+            (b"GET /jobs HTTP/1.0\r\nTransfer-Encoding: chunked\r\n\r\n", 18),
+            (b"GET /x HTTP/1.0\r\nContent-Length: 1048577\r\n\r\n", 19),
+            (b"GET /jobs HTTP/1.0\r\nContent-Length: 1048577\r\n\r\n", 9),
+            (b"GET /jobs HTTP/1.0\r\nContent-Length: 1\r\n\r\n", 1),
+        ];
+        for (name, side) in sides() {
+            for (http, number) in cases {
+                let (given, out) = forward(side, http);
+                assert_eq!(given, Err(number), "{name}: {}", String::from_utf8_lossy(http));
+                assert!(out.iter().all(|&byte| byte == 0), "{name}: the output of a refused request");
+            }
+        }
+    }
+
+    /// 8,192 bytes without an end are 11, one byte less is 1.
+    #[test]
+    fn the_head_s_length() {
+        let mut http = b"GET /jobs HTTP/1.0\r\nX: ".to_vec();
+        http.resize(8191, b'x');
+        for (name, side) in sides() {
+            assert_eq!(forward(side, &http).0, Err(1), "{name}");
+            let long = [&http[..], b"x"].concat();
+            assert_eq!(forward(side, &long).0, Err(11), "{name}");
+            let ends = [&http[..8188], b"\r\n\r\n"].concat();
+            assert_eq!(forward(side, &ends).0.map(|numbers| numbers[3]), Err(21), "{name}: accepted but for the output");
+            let late = [&http[..8189], b"\r\n\r\n"].concat();
+            assert_eq!(forward(side, &late).0, Err(11), "{name}");
+        }
+    }
+}
