@@ -28,13 +28,14 @@ use Rattle.lent.specs.Mounts.{Route, mountFor, routeOf}
 use Rattle.lent.specs.Lent.{Lent}
 use Rattle.lent.specs.Claims.{ProperLent}
 use Rattle.lent.proofs.Claims.{mount-is-longest}
-use Rattle.gateway.specs.Meaning.{Meaning, meaningOf}
-use Rattle.gateway.specs.Variables.{fixed, variables, bytesOf}
+use Rattle.variables.specs.Meaning.{Meaning, meaningOf}
+use Rattle.variables.specs.Variables.{fixed, variables}
+use Rattle.gateway.specs.Step.{bytesOf}
 use Rattle.gateway.specs.Step.{Forward, meaningAt, forwardOf}
-use Rattle.gateway.proofs.Proper.{ProperField, ProperMeaning, ProperRoute}
-use Rattle.gateway.proofs.Variables.{variables-proper}
-use Rattle.gateway.proofs.Names.{names-differ, variable-count}
-use Rattle.gateway.proofs.Grouping.{Grouped, grouped-once, value-bytes-of}
+use Rattle.variables.proofs.Proper.{ProperField, ProperMeaning, ProperRoute}
+use Rattle.variables.proofs.Variables.{variables-proper}
+use Rattle.variables.proofs.Names.{names-differ, variable-count}
+use Rattle.variables.proofs.Grouping.{Grouped, grouped-once, value-bytes-of}
 use Rattle.gateway.proofs.Links.{RequestLinks, request-links, BodyLinks, body-links, Links, links}
 
 -- a field of a request

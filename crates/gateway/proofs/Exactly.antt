@@ -12,11 +12,12 @@ use Rattle.scgi.proofs.Claims.{request-once, writes-exactly, write-then-read}
 use Rattle.lent.specs.Mounts.{Route}
 use Rattle.lent.specs.Lent.{Lent, lentOf}
 use Rattle.lent.proofs.Claims.{lent-is-proper}
-use Rattle.gateway.specs.Meaning.{Meaning}
-use Rattle.gateway.specs.Variables.{variables, bytesOf}
+use Rattle.variables.specs.Meaning.{Meaning}
+use Rattle.variables.specs.Variables.{variables}
+use Rattle.gateway.specs.Step.{bytesOf}
 use Rattle.gateway.specs.Step.{meaningAt, forwardOf}
 use Rattle.gateway.specs.Claims.{BytesExactlyMeaning, WrittenIsAccepted}
-use Rattle.gateway.proofs.Variables.{variables-once}
+use Rattle.variables.proofs.Variables.{variables-once}
 use Rattle.gateway.proofs.Links.{lent-of, without-room}
 use Rattle.gateway.proofs.Accepted.{routeFor, Account, account}
 

@@ -19,11 +19,13 @@ use Rattle.http.specs.Fields.{Field, fieldsOf}
 use Rattle.lent.specs.Settings.{Settings}
 use Rattle.lent.specs.Mounts.{Route, mountOf, mountFor, routeOf}
 use Rattle.lent.specs.Lent.{Lent}
-use Rattle.gateway.specs.Fields.{lowered}
-use Rattle.gateway.specs.Meaning.{Meaning, meaningOf}
-use Rattle.gateway.specs.Variables.{variables, bytesOf}
+use Rattle.request.specs.Named.{lowered}
+use Rattle.variables.specs.Meaning.{Meaning, meaningOf}
+use Rattle.variables.specs.Variables.{variables}
+use Rattle.gateway.specs.Step.{bytesOf}
 use Rattle.gateway.specs.Claims.{RoomIsLast}
-use Rattle.gateway.specs.Step.{rulesOf, Request, requestOf, Body, bodyOf, poolOf, Forward, writtenFor, forwardOf, stepWith}
+use Rattle.request.specs.Request.{rulesOf, Request, requestOf}
+use Rattle.gateway.specs.Step.{Body, bodyOf, poolOf, Forward, writtenFor, forwardOf, stepWith}
 
 -- of a head
 pub record RequestLinks (head : List ℕ) (q : Request) : Type 0 where

@@ -18,21 +18,11 @@ use Rattle.lent.specs.Settings.{Settings}
 use Rattle.lent.specs.Mounts.{Route, mountOf, routeOf}
 use Rattle.lent.specs.Lent.{Lent, lentOf}
 use Rattle.lent.proofs.Claims.{lent-number}
-use Rattle.gateway.specs.Fields.{lowered, valuesOf}
-use Rattle.gateway.specs.Meaning.{Meaning, meaningOf}
-use Rattle.gateway.specs.Variables.{variables}
-use Rattle.gateway.specs.Step.{
-  hostRight,
-  statedBy,
-  contentOf,
-  rulesOf,
-  requestOf,
-  bodyOf,
-  poolOf,
-  writtenFor,
-  forwardOf,
-  stepWith,
-}
+use Rattle.request.specs.Named.{lowered, valuesOf}
+use Rattle.variables.specs.Meaning.{Meaning, meaningOf}
+use Rattle.variables.specs.Variables.{variables}
+use Rattle.request.specs.Request.{hostRight, statedBy, contentOf, rulesOf, requestOf}
+use Rattle.gateway.specs.Step.{bodyOf, poolOf, writtenFor, forwardOf, stepWith}
 use Rattle.gateway.specs.Claims.{stepNumbers, NumbersHold}
 
 stated-numbers : (vs : List (List ℕ)) → Refuses stepNumbers (statedBy vs)

@@ -17,7 +17,8 @@ use Rattle.http.specs.Head.{headOf}
 use Rattle.http.proofs.Heads.{head-keeps, head-within}
 use Rattle.lent.specs.Mounts.{mountFor}
 use Rattle.lent.specs.Lent.{Lent, lentOf}
-use Rattle.gateway.specs.Step.{requestOf, Body, bodyOf, Forward, forwardOf, usedBy}
+use Rattle.request.specs.Request.{requestOf}
+use Rattle.gateway.specs.Step.{Body, bodyOf, Forward, forwardOf, usedBy}
 use Rattle.gateway.specs.Claims.{PipelinesFrame}
 use Rattle.gateway.proofs.Links.{body-links, links, lent-of}
 

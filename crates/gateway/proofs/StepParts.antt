@@ -19,12 +19,14 @@ use Rattle.scgi.specs.declared.write.Writing.the-variants.{Bytes, Refused as Wr
 use Rattle.http.specs.Head.{headOf}
 use Rattle.lent.specs.Settings.{Settings}
 use Rattle.lent.specs.Mounts.{Route, mountFor, routeOf}
-use Rattle.lent.specs.Lent.{Lent, lentOf}
-use Rattle.gateway.specs.Meaning.{Meaning, meaningOf}
-use Rattle.gateway.specs.Variables.{variables, bytesOf}
-use Rattle.gateway.specs.Step.{Request, Body, Forward, requestOf, bodyOf, poolOf, writtenFor, forwardOf, stepWith, stepOf}
-use Rattle.gateway.specs.RequestRead.{cappedRequest}
-use Rattle.gateway.specs.Block.{routeAt}
+use Rattle.lent.specs.Lent.{lentOf}
+use Rattle.variables.specs.Meaning.{Meaning, meaningOf}
+use Rattle.variables.specs.Variables.{variables}
+use Rattle.gateway.specs.Step.{bytesOf}
+use Rattle.request.specs.Request.{Request, requestOf}
+use Rattle.gateway.specs.Step.{Body, Forward, bodyOf, poolOf, writtenFor, forwardOf, stepWith, stepOf}
+use Rattle.request.specs.RequestRead.{cappedRequest}
+use Rattle.variables.specs.Block.{routeAt}
 use Rattle.gateway.specs.Stepping.{Answer, answerOf, Stepped, bytesIn, forwardFrom, roomFor}
 use Rattle.gateway.specs.declared.step.Stepping.the-variants.{Written, Refused}
 

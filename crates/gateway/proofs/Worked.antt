@@ -27,20 +27,11 @@ use Rattle.http.specs.Fields.{fieldOf, eachField}
 use Rattle.lent.specs.Settings.{settingsOf}
 use Rattle.lent.specs.Mounts.{begins, mountOf}
 use Rattle.lent.specs.Lent.{ends, allMounts, lentOf}
-use Rattle.gateway.specs.Fields.{passed, addedBy, grouped, valuesOf}
-use Rattle.gateway.specs.Variables.{fixed}
-use Rattle.gateway.specs.Step.{
-  hostRight,
-  contentOf,
-  rulesOf,
-  requestOf,
-  bodyOf,
-  Forward,
-  writtenFor,
-  forwardOf,
-  stepWith,
-  stepOf,
-}
+use Rattle.variables.specs.Fields.{passed, addedBy, grouped}
+use Rattle.request.specs.Named.{valuesOf}
+use Rattle.variables.specs.Variables.{fixed}
+use Rattle.request.specs.Request.{hostRight, contentOf, rulesOf, requestOf}
+use Rattle.gateway.specs.Step.{bodyOf, Forward, writtenFor, forwardOf, stepWith, stepOf}
 
 -- a head of these lines
 abbrev pub headText : List String → List ℕ

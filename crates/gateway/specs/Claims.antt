@@ -15,8 +15,8 @@ use Rattle.scgi.specs.Grammar.{encoded, IsRequest}
 use Rattle.scgi.specs.Claims.{ReadBack}
 use Rattle.lent.specs.Mounts.{Route}
 use Rattle.lent.specs.Lent.{Lent, lentOf}
-use Rattle.gateway.specs.Meaning.{Meaning}
-use Rattle.gateway.specs.Variables.{variables}
+use Rattle.variables.specs.Meaning.{Meaning}
+use Rattle.variables.specs.Variables.{variables}
 use Rattle.gateway.specs.Step.{Forward, meaningAt, forwardOf, stepOf, usedBy}
 
 -- "Take any two HTTP requests accepted under equal settings, connection facts and mounts. The SCGI bytes written for them are equal

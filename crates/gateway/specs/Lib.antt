@@ -1,12 +1,3 @@
-pub mod Fields
-pub mod Meaning
-pub mod Variables
 pub mod Step
-pub mod Rules
-pub mod RequestRead
-pub mod Claims
-pub mod Put
-pub mod FixedBytes
-pub mod FieldVariables
-pub mod Block
 pub mod Stepping
+pub mod Claims

@@ -11,8 +11,9 @@ use Rattle.scgi.specs.Grammar.{netstring}
 use Rattle.scgi.specs.Write.{inRoom, outputAfter}
 use Rattle.lent.specs.Settings.{Settings}
 use Rattle.lent.specs.Mounts.{mountFor, routeOf}
-use Rattle.gateway.specs.Meaning.{meaningOf}
-use Rattle.gateway.specs.Step.{Request, Forward, poolOf, bodyOf, writtenFor}
+use Rattle.variables.specs.Meaning.{meaningOf}
+use Rattle.request.specs.Request.{Request}
+use Rattle.gateway.specs.Step.{Forward, poolOf, bodyOf, writtenFor}
 use Rattle.gateway.specs.declared.step.Stepping.{Stepping}
 use Rattle.gateway.specs.declared.step.Stepping.the-variants.{Written, Refused}
 

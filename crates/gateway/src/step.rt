@@ -7,15 +7,9 @@ ghost use Rattle.scgi.specs.Block.{parsed, wellFormed};
 ghost use Rattle.scgi.specs.Write.{WrittenOut};
 ghost use Rattle.lent.specs.Places.{settingsAt, SettingsInside};
 ghost use Rattle.gateway.specs.Step.{stepOf};
-ghost use Rattle.gateway.specs.RequestRead.{requestIn, LineKnown, FieldsKnown};
-ghost use Rattle.gateway.specs.Block.{blockAt, PlacesKnown};
+ghost use Rattle.request.specs.RequestRead.{requestIn, LineKnown, FieldsKnown};
+ghost use Rattle.variables.specs.Block.{blockAt, PlacesKnown};
 ghost use Rattle.gateway.specs.Stepping.{Stepped, bytesIn, forwardFrom, roomFor};
-use crate::block::put_block;
-use crate::put::Put;
-use crate::request::FieldPlaces;
-use crate::request::LinePlaces;
-use crate::request::Reading;
-use crate::request::read_request;
 use http::head::Head;
 use http::head::head_end;
 use lent::check::Checked;
@@ -24,8 +18,14 @@ use lent::places::SettingPlaces;
 use lent::search::Mount;
 use lent::search::search;
 use octets::kind_table::kinds;
+use request::read::FieldPlaces;
+use request::read::LinePlaces;
+use request::read::Reading;
+use request::read::read_request;
 use scgi::write::Writing;
 use scgi::write::write_parts;
+use variables::block::put_block;
+use variables::put::Put;
 
 pub enum Stepping {
     // How many bytes were written, where the pool stands in the mounts, and how many bytes of the input were used.

@@ -4,6 +4,10 @@ mod print; // words and numbers on standard output
 mod scgi_cases; // the reader, the writer and the lookups
 mod http_cases; // the parts of an HTTP head
 mod response_cases; // script response heads
+mod gateway_cases; // the step: whole outputs, mounts, fields, room
+mod gateway_lent; // the step: what it is lent
+mod gateway_order; // the step: the order of its refusals
+mod gateway_limits; // the step: its largest inputs
 
 fn main() {
     scgi_cases::reader();
@@ -23,4 +27,8 @@ fn main() {
     response_cases::most_lines();
     response_cases::longest_head();
     response_cases::too_long_head();
+    gateway_cases::all();
+    gateway_lent::all();
+    gateway_order::all();
+    gateway_limits::all();
 }

@@ -20,3 +20,32 @@ pub fn refused(n: u8) {
     number(n as usize);
     end();
 }
+
+// A part of some bytes, where it is there.
+pub fn part(s: &[u8], start: usize, len: usize) {
+    if s.len() < start {
+        return;
+    }
+    if s.len() - start < len {
+        return;
+    }
+    word(&s[start..start + len]);
+}
+
+fn shown_byte(b: u8) {
+    if b == 0 {
+        word(b"|");
+        return;
+    }
+    word(&[b]);
+}
+
+// A line of bytes, | for NUL.
+pub fn shown(s: &[u8]) {
+    let mut i: usize = 0;
+    while i < s.len() {
+        shown_byte(s[i]);
+        i += 1;
+    }
+    end();
+}

@@ -9,10 +9,10 @@ use Rattle.octets.proofs.Lists.{part}
 use Rattle.lent.specs.Search.{mountOutcome}
 use Rattle.scgi.specs.Block.{parsed}
 use Rattle.lent.specs.Places.{settingsAt}
-use Rattle.gateway.specs.RequestRead.{pathIn, requestIn, lineIn, fieldsIn}
+use Rattle.request.specs.RequestRead.{pathIn, requestIn, lineIn, fieldsIn}
 use Rattle.gateway.specs.Stepping.{forwardFrom, roomFor}
 use Rattle.gateway.proofs.StepParts.{left-alone, no-mount, body-above, body-short, body-there, not-written, has-written, routed, not-both}
-use Rattle.gateway.specs.Meaning.{meaningOf}
+use Rattle.variables.specs.Meaning.{meaningOf}
 use Rattle.lent.specs.Mounts.{routeOf}
 use Prim.{absurd}
 use borrow.Author.Needs.{needs}

@@ -2,8 +2,8 @@
 -- Assumes nothing.
 use mathlib.Core.Path.{sym}
 use lib.Seq.{length-take-le}
-use Rattle.gateway.specs.Block.{blockAt}
-use Rattle.gateway.proofs.Puts.{put-front, put-small, put-large, put-within}
+use Rattle.variables.specs.Block.{blockAt}
+use Rattle.variables.proofs.Puts.{put-front, put-small, put-large, put-within}
 use Rattle.gateway.proofs.StepParts.{too-large, not-too-large}
 use borrow.Author.Needs.{needs}
 use Rattle.gateway.proofs.step.write_request.Statement.{statement}

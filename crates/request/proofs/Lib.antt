@@ -1,0 +1,3 @@
+pub mod NamedFields
+pub mod RuleSteps
+pub mod RequestSteps

@@ -1,0 +1,4 @@
+pub mod Named
+pub mod Request
+pub mod Rules
+pub mod RequestRead

@@ -1,0 +1,9 @@
+pub mod Proper
+pub mod NameBytes
+pub mod Variables
+pub mod Names
+pub mod Grouping
+pub mod Puts
+pub mod FixedVariables
+pub mod FieldVariables
+pub mod Blocks

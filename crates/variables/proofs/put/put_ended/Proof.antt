@@ -1,0 +1,53 @@
+-- `variables::put::put_ended` meets its contract.
+-- Assumes nothing.
+use borrow.Author.Needs.{needs}
+use Rattle.variables.proofs.Puts.{put-then, put-full, put-within}
+use Rattle.variables.proofs.put.put_ended.Statement.{statement}
+use Rattle.variables.proofs.put.put_ended.Tie as tie
+use Rattle.variables.specs.Put.{PutDone}
+use Rattle.variables.specs.declared.put.Put.the-variants.{At}
+
+-- the first write, where the pattern matched
+first : (c : tie.After-known-told) → PutDone (c .before .before .before .before .before .before .before .before .before .args .out .now) (c .before .before .before .before .before .before .before .before .before .args .at) (c .before .before .before .before .before .before .before .before .before .args .src .now) (c .before .before .before .before .before .put-piece .last .0) (At (c .before .p .given .0 .0))
+first c = rw (c .before .p .given .1) at (c .before .before .before .before .before .put-piece .ensures)
+
+put-piece-requires : tie.Need-put-piece-requires
+put-piece-requires c κs = search needs
+
+enum-known-p : tie.Need-enum-known-p
+enum-known-p c = search needs
+
+enum-told : tie.Need-enum-told
+enum-told c = search needs
+
+same-length : tie.Need-same-length
+same-length c = search needs
+
+returns : tie.Need-returns
+returns c = put-full _ (rw (c .enum-told .given .1) at (c .before .before .before .before .put-piece .ensures))
+
+slice-aggregate-put-piece : tie.Need-slice-aggregate-put-piece
+slice-aggregate-put-piece c = search needs
+
+put-piece-requires-2 : tie.Need-put-piece-requires-2
+put-piece-requires-2 c κs = put-within (first (c .before .before))
+
+same-length-2 : tie.Need-same-length-2
+same-length-2 c = search needs
+
+returns-2 : tie.Need-returns-2
+returns-2 c = put-then (first (c .before .before .before .before .before)) (c .before .before .put-piece2 .ensures)
+
+pub put-ended-spec : {M : Type 1} → statement M
+put-ended-spec =
+    tie.close
+    (tie.spec
+    put-piece-requires
+    enum-known-p
+    enum-told
+    same-length
+    returns
+    slice-aggregate-put-piece
+    put-piece-requires-2
+    same-length-2
+    returns-2)

@@ -1,0 +1,226 @@
+// The variables of a request's fields, by the places of the fields in a lent list.
+ghost use mathlib.Core.Path.{_≡_};
+ghost use mathlib.Core.List.{[], _∷_, _++_, map};
+ghost use Prim.Native.Nat.{_+_, _*_, _≤_, _<_};
+ghost use lib.ListN.{length, take, drop};
+ghost use Rattle.octets.specs.Text.{bytes};
+ghost use Rattle.octets.specs.Compare.{lowerOf};
+ghost use Rattle.octets.specs.Lists.{isIn};
+ghost use Rattle.scgi.specs.Block.{printed};
+ghost use Rattle.http.specs.Fields.{fieldAt, fieldsAt, Inside, AllInside};
+ghost use Rattle.variables.specs.Fields.{notPassed, addedBy, groupedOf};
+ghost use Rattle.variables.specs.Variables.{variableByte, httpName, httpVariable};
+ghost use Rattle.variables.specs.Put.{ifThere, PutDone};
+ghost use Rattle.variables.specs.FieldVariables.{lowName, namesBefore, lowFrom, addedAt, valueFrom, makes, variableFrom};
+use crate::put::Put;
+use crate::put::put_piece;
+use octets::compare::same_letters;
+use octets::compare::upper;
+use request::stored::field_name;
+use request::stored::field_value;
+
+// Whether a name is one of the first four that are not passed.
+fn not_passed_first(name: &[u8]) -> bool
+    ensures { λ r. ⌜ r ≡ isIn (map lowerOf (now (name .entry))) (take 4 notPassed) ⌝ }
+{
+    if same_letters(name, b"authorization") {
+        return true;
+    }
+    if same_letters(name, b"proxy-authorization") {
+        return true;
+    }
+    if same_letters(name, b"proxy") {
+        return true;
+    }
+    same_letters(name, b"connection")
+}
+
+// Whether a name is one of the others that are not passed.
+fn not_passed_last(name: &[u8]) -> bool
+    ensures { λ r. ⌜ r ≡ isIn (map lowerOf (now (name .entry))) (drop 4 notPassed) ⌝ }
+{
+    if same_letters(name, b"keep-alive") {
+        return true;
+    }
+    if same_letters(name, b"content-length") {
+        return true;
+    }
+    same_letters(name, b"content-type")
+}
+
+// Whether fields of a name are not passed.
+fn not_passed(name: &[u8]) -> bool
+    ensures { λ r. ⌜ r ≡ isIn (map lowerOf (now (name .entry))) notPassed ⌝ }
+{
+    if not_passed_first(name) {
+        return true;
+    }
+    not_passed_last(name)
+}
+
+// Whether a field before number k has its name.
+fn seen_before(head: &[u8], places: &[u64], k: usize, n: usize) -> bool
+    requires { ⌜ (k < n) × (4 * n ≤ length (now places)) × AllInside (now head) (now places) n ⌝ }
+    ensures { λ r. ⌜ r ≡ isIn (lowName (now (head .entry)) (now (places .entry)) k) (namesBefore (now (head .entry)) (now (places .entry)) k) ⌝ }
+{
+    let name = field_name(head, places, k);
+    let mut j = k;
+    while 0 < j {
+        j -= 1;
+        let earlier = field_name(head, places, j);
+        if same_letters(name, earlier) {
+            return true;
+        }
+    }
+    false
+}
+
+// A byte of a field's name in the name of its variable.
+fn variable_byte(b: u8) -> u8
+    ensures { λ r. ⌜ r ≡ variableByte (lowerOf b) ⌝ }
+{
+    if b == b'-' {
+        return b'_';
+    }
+    upper(b)
+}
+
+// Writes a field's name as its variable has it.
+fn put_name(out: &mut [u8], at: usize, name: &[u8]) -> Put
+    requires { ⌜ at ≤ length (now out) ⌝ }
+    ensures { λ r. ⌜ PutDone (now (out .entry)) at (map variableByte (map lowerOf (now (name .entry)))) (now (out .exit)) r ⌝ }
+{
+    if out.len() - at < name.len() {
+        return Put::Full;
+    }
+    let mut i: usize = 0;
+    while i < name.len() {
+        let b = variable_byte(name[i]);
+        out[at + i] = b;
+        i += 1;
+    }
+    Put::At(at + i)
+}
+
+// Writes the name of a field's variable, and a NUL.
+fn put_http_name(out: &mut [u8], at: usize, name: &[u8]) -> Put
+    requires { ⌜ at ≤ length (now out) ⌝ }
+    ensures { λ r. ⌜ PutDone (now (out .entry)) at (httpName (map lowerOf (now (name .entry))) ++ 0 ∷ []) (now (out .exit)) r ⌝ }
+{
+    let p = put_piece(out, at, b"HTTP_");
+    let Put::At(n) = p else {
+        return Put::Full;
+    };
+    let q = put_name(out, n, name);
+    let Put::At(m) = q else {
+        return Put::Full;
+    };
+    put_piece(out, m, b"\0")
+}
+
+// Writes a comma, a space and the value of the field with number j.
+fn put_joined(head: &[u8], places: &[u64], j: usize, out: &mut [u8], at: usize) -> Put
+    requires { ⌜ (4 * j + 3 < length (now places)) × Inside (now head) (now places) j × (at ≤ length (now out)) ⌝ }
+    ensures { λ r. ⌜ PutDone (now (out .entry)) at (bytes ", " ++ fieldAt (now (head .entry)) (now (places .entry)) j .value) (now (out .exit)) r ⌝ }
+{
+    let p = put_piece(out, at, b", ");
+    let Put::At(n) = p else {
+        return Put::Full;
+    };
+    let value = field_value(head, places, j);
+    put_piece(out, n, value)
+}
+
+// Writes what the field with number j adds to the value of a name.
+fn put_added(head: &[u8], places: &[u64], j: usize, name: &[u8], out: &mut [u8], at: usize) -> Put
+    requires { ⌜ (4 * j + 3 < length (now places)) × Inside (now head) (now places) j × (at ≤ length (now out)) ⌝ }
+    ensures { λ r. ⌜ PutDone (now (out .entry)) at (addedAt (now (head .entry)) (now (places .entry)) (map lowerOf (now (name .entry))) j) (now (out .exit)) r ⌝ }
+{
+    let later = field_name(head, places, j);
+    if same_letters(later, name) {
+        return put_joined(head, places, j, out, at);
+    }
+    Put::At(at)
+}
+
+// Writes what the fields after number k add to its value.
+fn put_later(head: &[u8], places: &[u64], k: usize, n: usize, out: &mut [u8], at: usize) -> Put
+    requires { ⌜ (k < n) × (4 * n ≤ length (now places)) × AllInside (now head) (now places) n × (at ≤ length (now out)) ⌝ }
+    ensures { λ r. ⌜ PutDone (now (out .entry)) at (addedBy (lowFrom (now (head .entry)) (now (places .entry)) n (k + 1)) (lowName (now (head .entry)) (now (places .entry)) k)) (now (out .exit)) r ⌝ }
+{
+    let name = field_name(head, places, k);
+    let mut p = at;
+    let mut j = k + 1;
+    while j < n {
+        let r = put_added(head, places, j, name, out, p);
+        let Put::At(m) = r else {
+            return Put::Full;
+        };
+        p = m;
+        j += 1;
+    }
+    Put::At(p)
+}
+
+// Writes the value of the field with number k, joined with those of the later ones of its name, and a NUL.
+fn put_values(head: &[u8], places: &[u64], k: usize, n: usize, out: &mut [u8], at: usize) -> Put
+    requires { ⌜ (k < n) × (4 * n ≤ length (now places)) × AllInside (now head) (now places) n × (at ≤ length (now out)) ⌝ }
+    ensures { λ r. ⌜ PutDone (now (out .entry)) at (valueFrom (now (head .entry)) (now (places .entry)) n k ++ 0 ∷ []) (now (out .exit)) r ⌝ }
+{
+    let value = field_value(head, places, k);
+    let p = put_piece(out, at, value);
+    let Put::At(m) = p else {
+        return Put::Full;
+    };
+    let q = put_later(head, places, k, n, out, m);
+    let Put::At(e) = q else {
+        return Put::Full;
+    };
+    put_piece(out, e, b"\0")
+}
+
+// Writes the variable that the field with number k makes.
+fn put_field(head: &[u8], places: &[u64], k: usize, n: usize, out: &mut [u8], at: usize) -> Put
+    requires { ⌜ (k < n) × (4 * n ≤ length (now places)) × AllInside (now head) (now places) n × (at ≤ length (now out)) ⌝ }
+    ensures { λ r. ⌜ PutDone (now (out .entry)) at (variableFrom (now (head .entry)) (now (places .entry)) n k) (now (out .exit)) r ⌝ }
+{
+    let name = field_name(head, places, k);
+    let p = put_http_name(out, at, name);
+    let Put::At(m) = p else {
+        return Put::Full;
+    };
+    put_values(head, places, k, n, out, m)
+}
+
+// Writes the variable of the field with number k, if it makes one.
+fn put_new(head: &[u8], places: &[u64], k: usize, n: usize, out: &mut [u8], at: usize) -> Put
+    requires { ⌜ (k < n) × (4 * n ≤ length (now places)) × AllInside (now head) (now places) n × (at ≤ length (now out)) ⌝ }
+    ensures { λ r. ⌜ PutDone (now (out .entry)) at (ifThere (makes (now (head .entry)) (now (places .entry)) k) (variableFrom (now (head .entry)) (now (places .entry)) n k)) (now (out .exit)) r ⌝ }
+{
+    let name = field_name(head, places, k);
+    if not_passed(name) {
+        return Put::At(at);
+    }
+    if seen_before(head, places, k, n) {
+        return Put::At(at);
+    }
+    put_field(head, places, k, n, out, at)
+}
+
+// Writes one variable for each name of the passed fields, by first appearance.
+pub fn put_fields(head: &[u8], places: &[u64], n: usize, out: &mut [u8], at: usize) -> Put
+    requires { ⌜ (4 * n ≤ length (now places)) × AllInside (now head) (now places) n × (n ≤ 64) × (at ≤ length (now out)) ⌝ }
+    ensures { λ r. ⌜ PutDone (now (out .entry)) at (printed (map httpVariable (groupedOf (fieldsAt (now (head .entry)) (now (places .entry)) 0 n)))) (now (out .exit)) r ⌝ }
+{
+    let mut p = at;
+    let mut k: usize = 0;
+    while k < n {
+        let r = put_new(head, places, k, n, out, p);
+        let Put::At(m) = r else {
+            return Put::Full;
+        };
+        p = m;
+        k += 1;
+    }
+    Put::At(p)
+}
