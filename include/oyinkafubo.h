@@ -13,7 +13,7 @@
  *   lent for reading.
  *
  * The calls keep no state, allocate nothing, and call nothing but memcpy and memset. They may run in many threads at once.
- * Every call ends, whatever the bytes.
+ * Their scratch memory is on the stack: 64 KiB of it are enough. Every call ends, whatever the bytes.
  *
  * A block is zero or more of: name, NUL, value, NUL. Names are not empty, values may be.
  */

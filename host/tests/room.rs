@@ -1,8 +1,10 @@
-//! Every length of the output, of the list of lengths and of the list of numbers around the exact one, on the archive.
+//! Every length of the output, of the list of lengths and of the list of numbers around the exact one, and the stack, on the archive.
 use oyinkafubo_host::calls::Archive;
 use oyinkafubo_host::case::{before, compare, numbers_before, observe, Call, Case, Observed};
 use oyinkafubo_host::generate;
 use oyinkafubo_host::random::Random;
+use oyinkafubo_host::recorded;
+use std::thread;
 
 const ROOM: u64 = 21;
 
@@ -112,4 +114,22 @@ fn numbers_of_each_call() {
 #[test]
 fn numbers_of_the_gateway() {
     every_answer_length(Call::Gateway);
+}
+
+/// The header says that 64 KiB of stack are enough. The mount search is deepest where a path of 64 slashes has no mount.
+#[test]
+fn a_stack_of_64_kib() {
+    let lines: String = (0..63).map(|at| format!("Field-{at}: {}\r\n", "x".repeat(40))).collect();
+    let http = format!("GET {} HTTP/1.0\r\n{lines}\r\n", "/x".repeat(64)).into_bytes();
+    let mut inputs = recorded::blocks("10.0.0.9", "/x", "pool");
+    inputs.push(http);
+    let fits = Case::new(Call::Gateway, inputs, 20_000);
+    let mut deepest = fits.clone();
+    deepest.inputs[2] = generate::block(&[generate::pair("/y", b"pool")]);
+    let on_small_stack = |case: Case| {
+        let thread = thread::Builder::new().stack_size(64 * 1024).spawn(move || observe(&Archive, &case).code);
+        thread.expect("a thread").join().expect("the call returns")
+    };
+    assert_eq!(on_small_stack(fits), 0);
+    assert_eq!(on_small_stack(deepest), 19);
 }
