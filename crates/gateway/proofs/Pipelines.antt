@@ -19,7 +19,7 @@ use Rattle.lent.specs.Mounts.{mountFor}
 use Rattle.lent.specs.Lent.{Lent, lentOf}
 use Rattle.request.specs.Request.{requestOf}
 use Rattle.gateway.specs.Step.{Body, bodyOf, Forward, forwardOf, usedBy}
-use Rattle.gateway.specs.Claims.{PipelinesFrame}
+use Rattle.gateway.specs.Claims.{PipelinesFrame, PipelinesEqual, PipelineCut, PipelineGoesOn}
 use Rattle.gateway.proofs.Links.{body-links, links, lent-of}
 
 keeps-head : (s t : List ℕ) → Keeps (headOf s) (headOf (s ++ t))
@@ -63,7 +63,13 @@ steady : (lent : Outcome Lent) → Steady (forwardOf lent) (λ f. f .used)
 steady lent = record { more = λ s t h. kept (keeps-forward lent s t) h; within = within lent }
 
 pub pipelines-frame : PipelinesFrame
-pipelines-frame facts site mounts =
-    let lent = lentOf facts site mounts in
-    let f = steady-frames (steady lent) in
-    record { frames = f; equal = spools-equal (usedBy lent) f; cut = spool-cut (usedBy lent) f; goes-on = spool-goes-on (usedBy lent) f }
+pipelines-frame facts site mounts = steady-frames (steady (lentOf facts site mounts))
+
+pub pipelines-equal : PipelinesEqual
+pipelines-equal facts site mounts = spools-equal (usedBy (lentOf facts site mounts)) (pipelines-frame facts site mounts)
+
+pub pipeline-cut : PipelineCut
+pipeline-cut facts site mounts = spool-cut (usedBy (lentOf facts site mounts)) (pipelines-frame facts site mounts)
+
+pub pipeline-goes-on : PipelineGoesOn
+pipeline-goes-on facts site mounts = spool-goes-on (usedBy (lentOf facts site mounts)) (pipelines-frame facts site mounts)

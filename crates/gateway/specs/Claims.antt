@@ -4,10 +4,10 @@ use Prim.Native.Nat.{ℕ}
 use mathlib.Core.Path.{_≡_}
 use mathlib.Core.Bool.{true}
 use mathlib.Core.Logic.{_↔_}
-use mathlib.Core.List.{List, [], _∷_}
+use mathlib.Core.List.{List, [], _∷_, map}
 use lib.Dec.{leb}
 use lib.ListN.{length}
-use Rattle.octets.specs.Outcome.{Outcome, refused, gives, then, need}
+use Rattle.octets.specs.Outcome.{refused, gives, then, need}
 use Rattle.octets.specs.Kinds.{oneOf}
 use Rattle.framing.specs.Claims.{Frames, SpoolsEqual, SpoolCut, SpoolGoesOn}
 use Rattle.scgi.specs.Block.{printed}
@@ -17,6 +17,7 @@ use Rattle.lent.specs.Mounts.{Route}
 use Rattle.lent.specs.Lent.{Lent, lentOf}
 use Rattle.variables.specs.Meaning.{Meaning}
 use Rattle.variables.specs.Variables.{variables}
+use Rattle.gateway.specs.Worked.{answerTo, cases}
 use Rattle.gateway.specs.Step.{Forward, meaningAt, forwardOf, stepOf, usedBy}
 
 -- "Take any two HTTP requests accepted under equal settings, connection facts and mounts. The SCGI bytes written for them are equal
@@ -44,15 +45,22 @@ WrittenIsAccepted =
     (facts site mounts http rest : List ℕ) (room : ℕ) (f : Forward)
     → stepOf facts site mounts http room ≡ gives f → WrittenFor facts site mounts http rest f
 
--- HTTP requests end to end frame as spools do: equal bytes are equal lists of requests, and a cut anywhere leaves exactly the whole ones
-pub record PipelinesHold (lent : Outcome Lent) : Type 0 where
-  pub frames : Frames (usedBy lent)
-  pub equal : SpoolsEqual (usedBy lent)
-  pub cut : SpoolCut (usedBy lent)
-  pub goes-on : SpoolGoesOn (usedBy lent)
-
+-- HTTP requests end to end frame as spools do, by the bytes used of each: an accepted request keeps its answer when bytes follow, and gives 1
+-- when it is cut short
 abbrev pub PipelinesFrame : Type 0
-PipelinesFrame = (facts site mounts : List ℕ) → PipelinesHold (lentOf facts site mounts)
+PipelinesFrame = (facts site mounts : List ℕ) → Frames (usedBy (lentOf facts site mounts))
+
+-- so two pipelines with equal bytes are the same list of requests
+abbrev pub PipelinesEqual : Type 0
+PipelinesEqual = (facts site mounts : List ℕ) → SpoolsEqual (usedBy (lentOf facts site mounts))
+
+-- and a cut anywhere leaves exactly the whole ones
+abbrev pub PipelineCut : Type 0
+PipelineCut = (facts site mounts : List ℕ) → SpoolCut (usedBy (lentOf facts site mounts))
+
+-- whatever some bytes gave, more bytes go on from there
+abbrev pub PipelineGoesOn : Type 0
+PipelineGoesOn = (facts site mounts : List ℕ) → SpoolGoesOn (usedBy (lentOf facts site mounts))
 
 -- the room is looked at last, and 21 is all that hangs on it: "22; 21"
 abbrev pub RoomIsLast : Type 0
@@ -67,3 +75,7 @@ stepNumbers = 20 ∷ 11 ∷ 1 ∷ 12 ∷ 13 ∷ 14 ∷ 15 ∷ 16 ∷ 17 ∷ 18 �
 -- no other number is given: "Every refusal returns its number and nothing else"
 abbrev pub NumbersHold : Type 0
 NumbersHold = (facts site mounts http : List ℕ) (room n : ℕ) → stepOf facts site mounts http room ≡ refused n → oneOf stepNumbers n ≡ true
+
+-- the cases that 01 marks W: one list, one statement
+abbrev pub WorkedCases : Type 0
+WorkedCases = map (λ c. answerTo (c .asked)) cases ≡ map (λ c. c .answer) cases

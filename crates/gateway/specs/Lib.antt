@@ -1,3 +1,4 @@
 pub mod Step
 pub mod Stepping
+pub mod Worked
 pub mod Claims
