@@ -1,9 +1,9 @@
--- Laws of equal bytes: what the test says, and one byte at a time from an index.
+-- Laws of equal bytes: what the test says, and one byte at a time from the end.
 -- Assumes nothing.
 use mathlib.Core.Path.{_≡_, refl, ap, _∙_}
 use mathlib.Core.Bool.{Bool, true, false, _&&_}
 use mathlib.Core.List.{List, [], _∷_, map}
-use Prim.Native.Nat.{ℕ, suc, _+_, _≤_, _<_}
+use Prim.Native.Nat.{ℕ, zero, suc, _+_, _-_, _≤_, _<_}
 use native.Mathlib.Omega.{arith}
 use lib.Dec.{eqb}
 use lib.ListN.{length, drop, getD, drop-of-length-le}
@@ -43,27 +43,36 @@ module _ (f : ℕ → ℕ) where
   other-length (x ∷ a) [] h = refl
   other-length (x ∷ a) (y ∷ b) h = rw (other-length a b (λ e. h (ap suc e))) (and-false (eqb (f x) (f y)))
 
+  -- one byte that differs decides
+  pub byte-differs : (a b : List ℕ) (i : ℕ) → i < length a → length a ≡ length b → (f (getD a i 0) ≡ f (getD b i 0) → ⊥) → sameBytes (map f a) (map f b) ≡ false
+  unfolding sameBytes
+  byte-differs [] b i h l e = absurd (omega arith)
+  byte-differs (x ∷ a) [] i h l e = refl
+  byte-differs (x ∷ a) (y ∷ b) zero h l e = simp (ne-eqb _ _ e)
+  byte-differs (x ∷ a) (y ∷ b) (suc i) h l e = rw (byte-differs a b i (omega arith) (omega arith) e) (and-false (eqb (f x) (f y)))
+
   module _ (a b : List ℕ) (i : ℕ) (l : length a ≡ length b) where
-    both-next :
-        i < length a
-        → sameBytes (map f (drop i a)) (map f (drop i b))
-        ≡ eqb (f (getD a i 0)) (f (getD b i 0)) && sameBytes (map f (drop (i + 1) a)) (map f (drop (i + 1) b))
+    -- nothing stands behind the end
+    pub same-behind : length a ≤ i → sameBytes (map f (drop i a)) (map f (drop i b)) ≡ true
     unfolding sameBytes
-    both-next h = rw (next a i h, next b i (omega arith))
-
-    pub byte-differs : i < length a → (f (getD a i 0) ≡ f (getD b i 0) → ⊥) → sameBytes (map f (drop i a)) (map f (drop i b)) ≡ false
-    byte-differs h e = both-next h ∙ simp (ne-eqb _ _ e)
-
-    pub byte-same :
-        i < length a → f (getD a i 0) ≡ f (getD b i 0)
-        → sameBytes (map f (drop i a)) (map f (drop i b)) ≡ sameBytes (map f (drop (i + 1) a)) (map f (drop (i + 1) b))
-    byte-same h e = both-next h ∙ simp (eq-eqb _ _ e)
-
-    pub all-same : length a ≤ i → sameBytes (map f (drop i a)) (map f (drop i b)) ≡ true
-    unfolding sameBytes
-    all-same h =
+    same-behind h =
         let h′ : length b ≤ i = omega arith in
         rw (drop-of-length-le a h, drop-of-length-le b h′)
+
+    -- one byte more from the end
+    pub byte-same :
+        0 < i → i ≤ length a → f (getD a (i - 1) 0) ≡ f (getD b (i - 1) 0) → sameBytes (map f (drop i a)) (map f (drop i b)) ≡ true
+        → sameBytes (map f (drop (i - 1) a)) (map f (drop (i - 1) b)) ≡ true
+    unfolding sameBytes
+    byte-same p h e s =
+        let z : i - 1 + 1 ≡ i = omega arith in
+        rw (next a (i - 1) (omega arith), next b (i - 1) (omega arith), z) (simp (eq-eqb _ _ e) s)
+
+    -- all of them
+    pub all-same : sameBytes (map f (drop i a)) (map f (drop i b)) ≡ true → i ≤ 0 → sameBytes (map f a) (map f b) ≡ true
+    all-same s h =
+        let z : i ≡ 0 = omega arith in
+        rw z at s
 
 map-self : (s : List ℕ) → map (λ b. b) s ≡ s
 map-self [] = refl

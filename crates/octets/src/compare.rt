@@ -2,19 +2,19 @@
 ghost use mathlib.Core.Path.{_≡_};
 ghost use Rattle.octets.specs.Compare.{sameBytes, lowerOf, upperOf, sameLetters};
 
-// Whether two slices hold the same bytes.
+// Whether two slices hold the same bytes. They are compared from the end: names that are alike mostly begin alike.
 pub fn same(a: &[u8], b: &[u8]) -> bool
     ensures { λ r. ⌜ r ≡ sameBytes (now (a .entry)) (now (b .entry)) ⌝ }
 {
     if a.len() != b.len() {
         return false;
     }
-    let mut i: usize = 0;
-    while i < a.len() {
+    let mut i = a.len();
+    while 0 < i {
+        i -= 1;
         if a[i] != b[i] {
             return false;
         }
-        i += 1;
     }
     true
 }
@@ -45,19 +45,19 @@ pub fn upper(b: u8) -> u8
     b - 32
 }
 
-// Whether two slices hold the same bytes, letter case aside.
+// Whether two slices hold the same bytes, letter case aside; from the end too.
 pub fn same_letters(a: &[u8], b: &[u8]) -> bool
     ensures { λ r. ⌜ r ≡ sameLetters (now (a .entry)) (now (b .entry)) ⌝ }
 {
     if a.len() != b.len() {
         return false;
     }
-    let mut i: usize = 0;
-    while i < a.len() {
+    let mut i = a.len();
+    while 0 < i {
+        i -= 1;
         if lower(a[i]) != lower(b[i]) {
             return false;
         }
-        i += 1;
     }
     true
 }
