@@ -36,6 +36,22 @@ stored ns d h after e =
       list = rw (le-leb (length ns) (length d) h) (e ∙ whole d 0 ns ∙ rw (zero-add (length ns)));
     }
 
+-- What a lower call gave, by what its answer tells of it.
+
+module _ {A B : Type 0} (g : A → B) where
+  pub refused-with : (o : Outcome A) (k : ℕ) → refused k ≡ then o (λ a. gives (g a)) → o ≡ refused k
+  refused-with (refused m) k e = cc
+  refused-with (gives a) k e = cc
+
+  pub record Gave (o : Outcome A) (b : B) : Type 0 where
+    pub it : A
+    pub is : o ≡ gives it
+    pub tells : b ≡ g it
+
+  pub gave-with : (o : Outcome A) (b : B) → gives b ≡ then o (λ a. gives (g a)) → Gave o b
+  gave-with (refused m) b e = absurd (let z : _≡_ {A = ℕ} 0 1 = cc in omega arith)
+  gave-with (gives a) b e = record { it = a; is = refl; tells = cc }
+
 -- What a lower call says, told by the numbers f.
 
 module _ {A : Type 0} (f : A → List ℕ) {o : Outcome A} where

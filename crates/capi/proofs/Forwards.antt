@@ -2,12 +2,12 @@
 -- Assumes nothing.
 use Prim.Native.Nat.{ℕ, _+_, _≤_, _<_}
 use Prim.{absurd}
-use mathlib.Core.Path.{_≡_, refl, sym, ap, subst, _∙_}
+use mathlib.Core.Path.{_≡_, sym, ap, subst, _∙_}
 use mathlib.Core.List.{List, [], _∷_}
 use native.Mathlib.Omega.{arith}
 use lib.ListN.{length, take, drop}
 use borrow.Author.Tests.{le-leb}
-use Rattle.octets.specs.Outcome.{Outcome, refused, gives, then}
+use Rattle.octets.specs.Outcome.{Outcome, refused, gives}
 use Rattle.lent.specs.Lent.{lentOf}
 use Rattle.gateway.specs.Step.{Forward, forwardOf, stepOf}
 use Rattle.gateway.specs.Stepping.{Answer, answerOf, steppingOutcome, PoolInside, Stepped}
@@ -16,7 +16,7 @@ use Rattle.gateway.specs.declared.step.Stepping.the-variants.{Written, Refused}
 use Rattle.gateway.proofs.Claims.{room-is-last}
 use Rattle.capi.specs.Answer.{fitting, returned, Answered, untold}
 use Rattle.capi.specs.Forward.{forwardNumbers, gatewayGives, GatewayAnswered}
-use Rattle.capi.proofs.Answers.{refusal, gave, untold-refused, untold-given, untold-all}
+use Rattle.capi.proofs.Answers.{refused-with, Gave, gave-with, refusal, gave, untold-refused, untold-given, untold-all}
 
 -- an answer of the step is one of its two
 pub not-both : {k n p l u : ℕ} → Refused k ≡ Written n p l u → ⊥
@@ -26,28 +26,15 @@ not-both e =
 
 -- The step's answer tells its numbers.
 
-refused-with : (o : Outcome Forward) (k : ℕ) → refused k ≡ then o (λ f. gives (answerOf f)) → o ≡ refused k
-refused-with (refused m) k e = cc
-refused-with (gives f) k e = cc
-
-record Gave (o : Outcome Forward) (a : Answer) : Type 0 where
-  forward : Forward
-  is : o ≡ gives forward
-  tells : a ≡ answerOf forward
-
-gave-with : (o : Outcome Forward) (a : Answer) → gives a ≡ then o (λ f. gives (answerOf f)) → Gave o a
-gave-with (refused m) a e = absurd (let z : _≡_ {A = ℕ} 0 1 = cc in omega arith)
-gave-with (gives f) a e = record { forward = f; is = refl; tells = cc }
-
 module _ (facts site mounts http d after : List ℕ) (s : Stepping) (x : Stepped (stepOf facts site mounts http (length d)) mounts d after s) where
   abbrev o : Outcome Forward
   o = stepOf facts site mounts http (length d)
 
   refused-by : (k : ℕ) → s ≡ Refused k → o ≡ refused k
-  refused-by k e = refused-with o k (sym (ap (steppingOutcome mounts) e) ∙ x .answer)
+  refused-by k e = refused-with answerOf o k (sym (ap (steppingOutcome mounts) e) ∙ x .answer)
 
-  gave-by : (n p l u : ℕ) → s ≡ Written n p l u → Gave o (record { written = n; pool = take l (drop p mounts); used = u })
-  gave-by n p l u e = gave-with o (record { written = n; pool = take l (drop p mounts); used = u }) (sym (ap (steppingOutcome mounts) e) ∙ x .answer)
+  gave-by : (n p l u : ℕ) → s ≡ Written n p l u → Gave answerOf o (record { written = n; pool = take l (drop p mounts); used = u })
+  gave-by n p l u e = gave-with answerOf o (record { written = n; pool = take l (drop p mounts); used = u }) (sym (ap (steppingOutcome mounts) e) ∙ x .answer)
 
   -- the number that is due where the numbers have no room
   pub due-refused : (k : ℕ) → s ≡ Refused k → k ≡ returned (untold (forwardOf (lentOf facts site mounts) http))
@@ -58,7 +45,7 @@ module _ (facts site mounts http d after : List ℕ) (s : Stepping) (x : Stepped
   pub due-given : (n p l u : ℕ) → s ≡ Written n p l u → 21 ≡ returned (untold (forwardOf (lentOf facts site mounts) http))
   due-given n p l u e =
       let g = gave-by n p l u e in
-      untold-given (λ f. f .scgi) (forwardOf (lentOf facts site mounts) http) (length d) (g .forward)
+      untold-given (λ f. f .scgi) (forwardOf (lentOf facts site mounts) http) (length d) (g .it)
       (sym (room-is-last facts site mounts http (length d)) ∙ g .is)
 
   -- the step refused
@@ -80,9 +67,9 @@ module _ (facts site mounts http d after : List ℕ) (s : Stepping) (x : Stepped
   step-told answer h n p l u e answer′ r a =
       let g = gave-by n p l u e in
       let i : p + l ≤ length mounts = subst (PoolInside mounts) e (x .pool) in
-      let c : n ≡ length (g .forward .scgi) = ap (λ (t : Answer). t .written) (g .tells) in
-      let v : u ≡ g .forward .used = ap (λ (t : Answer). t .used) (g .tells) in
-      let w : take l (drop p mounts) ≡ g .forward .pool = ap (λ (t : Answer). t .pool) (g .tells) in
+      let c : n ≡ length (g .it .scgi) = ap (λ (t : Answer). t .written) (g .tells) in
+      let v : u ≡ g .it .used = ap (λ (t : Answer). t .used) (g .tells) in
+      let w : take l (drop p mounts) ≡ g .it .pool = ap (λ (t : Answer). t .pool) (g .tells) in
       record {
         start = p;
         len = l;

@@ -1,41 +1,27 @@
 -- Laws of what oy_scgi_write gives and writes.
 -- Assumes nothing.
 use Prim.Native.Nat.{ℕ, _≤_, _<_}
-use mathlib.Core.Path.{_≡_, refl, sym, ap, _∙_}
+use mathlib.Core.Path.{_≡_, sym, ap, _∙_}
 use mathlib.Core.List.{List, [], _∷_}
-use native.Mathlib.Omega.{arith}
 use lib.ListN.{length}
 use borrow.Author.Tests.{le-leb}
-use Rattle.octets.specs.Outcome.{Outcome, refused, gives, then}
+use Rattle.octets.specs.Outcome.{refused, gives}
 use Rattle.scgi.specs.Write.{toWrite, writeOf, writingOutcome, Written}
 use Rattle.scgi.specs.declared.write.Writing.{Writing}
 use Rattle.scgi.specs.declared.write.Writing.the-variants.{Bytes, Refused}
 use Rattle.scgi.proofs.Claims.{room-is-last}
 use Rattle.capi.specs.Answer.{fitting, returned, Answered, untold}
 use Rattle.capi.specs.Write.{countNumbers, writeGives, WriteAnswered}
-use Rattle.capi.proofs.Answers.{refusal, gave, untold-refused, untold-given, untold-all}
+use Rattle.capi.proofs.Answers.{refused-with, Gave, gave-with, refusal, gave, untold-refused, untold-given, untold-all}
 
 -- The writer's answer tells the length of its bytes.
 
-refused-with : (o : Outcome (List ℕ)) (k : ℕ) → refused k ≡ then o (λ w. gives (length w)) → o ≡ refused k
-refused-with (refused m) k e = cc
-refused-with (gives w) k e = cc
-
-record Gave (o : Outcome (List ℕ)) (n : ℕ) : Type 0 where
-  bytes : List ℕ
-  is : o ≡ gives bytes
-  count : n ≡ length bytes
-
-gave-with : (o : Outcome (List ℕ)) (n : ℕ) → gives n ≡ then o (λ w. gives (length w)) → Gave o n
-gave-with (refused m) n e = absurd (let z : _≡_ {A = ℕ} 0 1 = cc in omega arith)
-gave-with (gives w) n e = record { bytes = w; is = refl; count = cc }
-
 module _ (block body d after : List ℕ) (w : Writing) (x : Written block body d after w) where
   refused-by : (k : ℕ) → w ≡ Refused k → writeOf block body (length d) ≡ refused k
-  refused-by k e = refused-with (writeOf block body (length d)) k (sym (ap writingOutcome e) ∙ x .answer)
+  refused-by k e = refused-with length (writeOf block body (length d)) k (sym (ap writingOutcome e) ∙ x .answer)
 
-  gave-by : (n : ℕ) → w ≡ Bytes n → Gave (writeOf block body (length d)) n
-  gave-by n e = gave-with (writeOf block body (length d)) n (sym (ap writingOutcome e) ∙ x .answer)
+  gave-by : (n : ℕ) → w ≡ Bytes n → Gave length (writeOf block body (length d)) n
+  gave-by n e = gave-with length (writeOf block body (length d)) n (sym (ap writingOutcome e) ∙ x .answer)
 
   -- the number that is due where the count has no room
   pub due-refused : (k : ℕ) → w ≡ Refused k → k ≡ returned (untold (toWrite block body))
@@ -44,7 +30,7 @@ module _ (block body d after : List ℕ) (w : Writing) (x : Written block body d
   pub due-given : (n : ℕ) → w ≡ Bytes n → 21 ≡ returned (untold (toWrite block body))
   due-given n e =
       let g = gave-by n e in
-      untold-given (λ v. v) (toWrite block body) (length d) (g .bytes) (sym (room-is-last block body (length d)) ∙ g .is)
+      untold-given (λ v. v) (toWrite block body) (length d) (g .it) (sym (room-is-last block body (length d)) ∙ g .is)
 
   -- the writer refused
   pub write-refused : (answer : List ℕ) (k : ℕ) → w ≡ Refused k → WriteAnswered block body d after answer answer k
@@ -59,7 +45,7 @@ module _ (block body d after : List ℕ) (w : Writing) (x : Written block body d
   write-told answer h n e answer′ r a =
       let g = gave-by n e in
       record {
-        answers = gave countNumbers (g .is) (rw (sym (g .count)) a);
+        answers = gave countNumbers (g .is) (rw (sym (g .tells)) a);
         output = x .output ∙ rw (g .is, le-leb 1 (length answer) h);
       }
 

@@ -2,7 +2,7 @@
 -- Assumes nothing.
 use Prim.Native.Nat.{ℕ, min, _+_, _-_, _≤_, _<_}
 use mathlib.Core.Path.{_≡_, refl, sym, ap, subst, _∙_}
-use mathlib.Core.Bool.{Bool, true, false, false≢true}
+use mathlib.Core.Bool.{Bool, true, false}
 use mathlib.Core.List.{List, _++_}
 use native.Mathlib.Omega.{arith}
 use lib.Dec.{leb}
@@ -27,8 +27,8 @@ use Rattle.request.specs.Request.{Request, requestOf}
 use Rattle.gateway.specs.Step.{Body, Forward, bodyOf, poolOf, writtenFor, forwardOf, stepWith, stepOf}
 use Rattle.request.specs.RequestRead.{cappedRequest}
 use Rattle.variables.specs.Block.{routeAt}
-use Rattle.gateway.specs.Stepping.{Answer, answerOf, Stepped, bytesIn, forwardFrom, roomFor}
-use Rattle.gateway.specs.declared.step.Stepping.the-variants.{Written, Refused}
+use Rattle.gateway.specs.Stepping.{Answer, answerOf, steppingOutcome, PoolInside, Stepped, bytesIn, steppingBy, forwardFrom, roomFor}
+use Rattle.gateway.specs.declared.step.Stepping.the-variants.{Refused}
 
 -- The block and the body: 22; 21.
 
@@ -100,32 +100,20 @@ module _ (s : Settings) (r : Route) (m : Meaning) (mounts d after : List ℕ) (s
   abbrev o : Outcome Forward
   o = roomFor (length d) (writtenFor s r m pool used)
 
-  pub not-written :
-      (k : ℕ) → WrittenOut (bytesIn (printed (variables s r m)) (m .body) (length d)) d after (WriteRefused k) → Stepped o mounts d after (Refused k)
-  not-written k w =
-      record {
-        answer = ap (counted s r m pool used (length d)) (w .answer) ∙ sym (answer-is s r m pool used (length d));
-        pool = tt;
-        output = rw (scgi-is s r m pool used (length d)) (w .output);
-      }
+  pub answered-by :
+      (w : Writing) → start + len ≤ length mounts → WrittenOut (bytesIn (printed (variables s r m)) (m .body) (length d)) d after w
+      → Stepped o mounts d after (steppingBy start len used w)
+  answered-by w h x = record { answer = says w x; pool = inside w; output = rw (scgi-is s r m pool used (length d)) (x .output) }
+    where
+      inside : (v : Writing) → PoolInside mounts (steppingBy start len used v)
+      inside (Bytes n) = h
+      inside (WriteRefused k) = tt
 
-  pub has-written :
-      (n : ℕ) → start + len ≤ length mounts → WrittenOut (bytesIn (printed (variables s r m)) (m .body) (length d)) d after (Bytes n)
-      → Stepped o mounts d after (Written n start len used)
-  has-written n h w =
-      record {
-        answer = ap (counted s r m pool used (length d)) (w .answer) ∙ sym (answer-is s r m pool used (length d));
-        pool = h;
-        output = rw (scgi-is s r m pool used (length d)) (w .output);
-      }
-
--- an answer of the writer is one of its two
-pub not-both : {k n : ℕ} → WriteRefused k ≡ Bytes n → ⊥
-not-both e = false≢true (ap isBytes e)
-  where
-    isBytes : Writing → Bool
-    isBytes (Bytes n) = true
-    isBytes (WriteRefused k) = false
+      says :
+          (v : Writing) → WrittenOut (bytesIn (printed (variables s r m)) (m .body) (length d)) d after v
+          → steppingOutcome mounts (steppingBy start len used v) ≡ then o (λ f. gives (answerOf f))
+      says (Bytes n) y = ap (counted s r m pool used (length d)) (y .answer) ∙ sym (answer-is s r m pool used (length d))
+      says (WriteRefused k) y = ap (counted s r m pool used (length d)) (y .answer) ∙ sym (answer-is s r m pool used (length d))
 
 -- From the mount on: 19; 9; 1.
 

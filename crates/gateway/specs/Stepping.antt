@@ -9,6 +9,8 @@ use Rattle.octets.specs.Outcome.{Outcome, refused, gives, then, need}
 use Rattle.scgi.specs.Block.{Header}
 use Rattle.scgi.specs.Grammar.{netstring}
 use Rattle.scgi.specs.Write.{inRoom, outputAfter}
+use Rattle.scgi.specs.declared.write.Writing.{Writing}
+use Rattle.scgi.specs.declared.write.Writing.the-variants.{Bytes, Refused as WriteRefused}
 use Rattle.lent.specs.Settings.{Settings}
 use Rattle.lent.specs.Mounts.{mountFor, routeOf}
 use Rattle.variables.specs.Meaning.{meaningOf}
@@ -42,11 +44,16 @@ pub record Stepped (o : Outcome Forward) (mounts before after : List ℕ) (r : S
   pub pool : PoolInside mounts r
   pub output : after ≡ outputAfter (then o (λ f. gives (f .scgi))) before
 
--- For the code, which makes the step in three parts.
+-- For the code, which makes the step in parts.
 
 -- 22; 21: the SCGI bytes of a block and a body
 abbrev pub bytesIn : List ℕ → List ℕ → ℕ → Outcome (List ℕ)
 bytesIn block body room = then (need (leb (length block) 16384) 22 (gives (netstring block ++ body))) (λ w. inRoom w room)
+
+-- the step's answer by the writer's, with the pool's place and the bytes used
+abbrev pub steppingBy : ℕ → ℕ → ℕ → Writing → Stepping
+steppingBy start len used (Bytes n) = Written n start len used
+steppingBy start len used (WriteRefused k) = Refused k
 
 -- 19; 9; 1 for a short body; 22: of a request whose head has h bytes
 abbrev pub forwardFrom : Settings → Outcome (List Header) → List ℕ → ℕ → Request → Outcome Forward

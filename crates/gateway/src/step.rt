@@ -9,7 +9,7 @@ ghost use Rattle.lent.specs.Places.{settingsAt, SettingsInside};
 ghost use Rattle.gateway.specs.Step.{stepOf};
 ghost use Rattle.request.specs.RequestRead.{requestIn, LineKnown, FieldsKnown};
 ghost use Rattle.variables.specs.Block.{blockAt, PlacesKnown};
-ghost use Rattle.gateway.specs.Stepping.{Stepped, bytesIn, forwardFrom, roomFor};
+ghost use Rattle.gateway.specs.Stepping.{Stepped, bytesIn, steppingBy, forwardFrom, roomFor};
 use http::head::Head;
 use http::head::head_end;
 use lent::check::Checked;
@@ -75,6 +75,24 @@ fn write_request(
     write_parts(&block[..n], body, out)
 }
 
+// The step's answer by the writer's.
+fn answered(w: Writing, pool_start: usize, pool_len: usize, used: usize) -> Stepping
+    ensures { λ r. ⌜ r ≡ steppingBy «pool_start» «pool_len» used w ⌝ }
+{
+    let Writing::Bytes(written) = w else {
+        let Writing::Refused(k) = w else {
+            return Stepping::Refused(0);
+        };
+        return Stepping::Refused(k);
+    };
+    Stepping::Written {
+        written,
+        pool_start,
+        pool_len,
+        used,
+    }
+}
+
 // Forwards a request whose head was read: 19; 9; 1 for a short body; 22; 21.
 fn forward(
     facts: &[u8],
@@ -127,18 +145,7 @@ fn forward(
         body,
         out,
     );
-    let Writing::Bytes(written) = w else {
-        let Writing::Refused(k) = w else {
-            return Stepping::Refused(0);
-        };
-        return Stepping::Refused(k);
-    };
-    Stepping::Written {
-        written,
-        pool_start,
-        pool_len,
-        used,
-    }
+    answered(w, pool_start, pool_len, used)
 }
 
 // Turns the HTTP request at the start of the bytes into SCGI bytes at the start of out, under connection facts, site settings and mounts.

@@ -8,13 +8,12 @@ use lib.Seq.{length-take-le}
 use Rattle.octets.proofs.Lists.{part}
 use Rattle.lent.specs.Search.{mountOutcome}
 use Rattle.scgi.specs.Block.{parsed}
-use Rattle.lent.specs.Places.{settingsAt}
-use Rattle.request.specs.RequestRead.{pathIn, requestIn, lineIn, fieldsIn}
-use Rattle.gateway.specs.Stepping.{forwardFrom, roomFor}
-use Rattle.gateway.proofs.StepParts.{left-alone, no-mount, body-above, body-short, body-there, not-written, has-written, routed, not-both}
-use Rattle.variables.specs.Meaning.{meaningOf}
 use Rattle.lent.specs.Mounts.{routeOf}
-use Prim.{absurd}
+use Rattle.lent.specs.Places.{settingsAt}
+use Rattle.variables.specs.Meaning.{meaningOf}
+use Rattle.request.specs.RequestRead.{lineIn, pathIn, fieldsIn, requestIn}
+use Rattle.gateway.specs.Stepping.{forwardFrom, roomFor}
+use Rattle.gateway.proofs.StepParts.{left-alone, no-mount, body-above, body-short, body-there, answered-by, routed}
 use borrow.Author.Needs.{needs}
 use Rattle.gateway.proofs.step.forward.Statement.{statement}
 use Rattle.gateway.proofs.step.forward.Tie as tie
@@ -76,39 +75,16 @@ part-body-end c = search needs
 write-request-requires : tie.Need-write-request-requires
 write-request-requires c κs = (record { settings = c .before .before .before .before .before .before .before .before .before .before .before .before .before .before .before .before .before .before .pre .0; line = c .before .before .before .before .before .before .before .before .before .before .before .before .before .before .before .before .before .before .pre .5; fields = c .before .before .before .before .before .before .before .before .before .before .before .before .before .before .before .before .before .before .pre .6; numbers = c .before .before .before .before .before .before .before .before .before .before .before .before .before .before .before .before .before .before .pre .4; name = omega (arith, (rw (c .before .before .before .before .before .before .before .m .given .1) at (c .before .before .before .before .before .before .before .before .before .search .ensures .inside)) .0, length-take (c .before .before .before .before .before .before .before .before .before .before .before .before .before .before .before .before .before .before .args .line .decoded) (c .before .before .before .before .before .before .before .before .before .before .before .before .before .before .before .before .before .before .args .path .now)) }, simp length-take (omega (arith, c .before .before .before .before .if1 .left)))
 
-enum-known-w : tie.Need-enum-known-w
-enum-known-w c = search needs
-
-enum-known-w-2 : tie.Need-enum-known-w-2
-enum-known-w-2 c = search needs
-
-enum-known-w-3 : tie.Need-enum-known-w-3
-enum-known-w-3 c = search needs
-
-enum-told-2 : tie.Need-enum-told-2
-enum-told-2 c = search needs
+answered-requires : tie.Need-answered-requires
+answered-requires c κs = search needs
 
 same-length : tie.Need-same-length
 same-length c = search needs
 
 returns-5 : tie.Need-returns-5
-returns-5 c = absurd (not-both (c .enum-told2 .given .1))
-
-same-length-2 : tie.Need-same-length-2
-same-length-2 c = search needs
-
-returns-6 : tie.Need-returns-6
-returns-6 c =
-    let a = c .before .before .before .before .before .before .before .before .before .before .before .before .before .before .before .before .before .before .before .before .before .before .before .before .before .before .before .args in
-    rw (body-there (settingsAt (a .facts .now) (a .site .now) (a .settings)) (parsed (a .mounts .now)) (a .http .now) (a .head-len) (requestIn (take (a .head-len - 4) (a .http .now)) (a .places .now) (a .path .now) (a .line) (a .fields)) (length (a .out .now)) _ (sym (rw (c .before .before .before .before .before .before .before .before .before .before .before .before .before .before .before .before .m .given .1) at (c .before .before .before .before .before .before .before .before .before .before .before .before .before .before .before .before .before .before .search .ensures .answer))) (c .before .before .before .before .before .before .before .before .before .before .before .before .before .if1 .left) (c .before .before .before .before .before .before .before .before .before .before .before .before .if2 .left)) (not-written (settingsAt (a .facts .now) (a .site .now) (a .settings)) (routeOf (record { name = take (c .before .before .before .before .before .before .before .before .before .before .before .before .before .before .before .before .m .given .0 .0) (pathIn (a .path .now) (a .line)); value = (take (c .before .before .before .before .before .before .before .before .before .before .before .before .before .before .before .before .m .given .0 .1 .1 .0) (drop (c .before .before .before .before .before .before .before .before .before .before .before .before .before .before .before .before .m .given .0 .1 .0) (a .mounts .now))) }) (pathIn (a .path .now) (a .line))) (meaningOf (lineIn (take (a .head-len - 4) (a .http .now)) (a .line)) (fieldsIn (take (a .head-len - 4) (a .http .now)) (a .places .now) (a .fields)) (take (a .fields .body) (drop (a .head-len) (a .http .now)))) (a .mounts .now) (a .out .now) _ (c .before .before .before .before .before .before .before .before .before .before .before .before .before .before .before .before .m .given .0 .1 .0) (c .before .before .before .before .before .before .before .before .before .before .before .before .before .before .before .before .m .given .0 .1 .1 .0) (a .head-len + a .fields .body) _ (routed (settingsAt (a .facts .now) (a .site .now) (a .settings)) (meaningOf (lineIn (take (a .head-len - 4) (a .http .now)) (a .line)) (fieldsIn (take (a .head-len - 4) (a .http .now)) (a .places .now) (a .fields)) (take (a .fields .body) (drop (a .head-len) (a .http .now)))) (pathIn (a .path .now) (a .line)) (c .before .before .before .before .before .before .before .before .before .before .before .before .before .before .before .before .m .given .0 .0) (take (c .before .before .before .before .before .before .before .before .before .before .before .before .before .before .before .before .m .given .0 .1 .1 .0) (drop (c .before .before .before .before .before .before .before .before .before .before .before .before .before .before .before .before .m .given .0 .1 .0) (a .mounts .now))) (a .out .now) _ ((rw (c .before .before .before .before .before .before .before .before .before .before .before .before .before .before .before .before .m .given .1) at (c .before .before .before .before .before .before .before .before .before .before .before .before .before .before .before .before .before .before .search .ensures .inside)) .0) (rw (part (a .http .now) (a .head-len) (a .fields .body)) at (rw (c .before .before .before .before .w2 .given .1 ∙ c .before .w3 .given .1) at (c .before .before .before .before .before .before .before .before .write-request .ensures)))))
-
-same-length-3 : tie.Need-same-length-3
-same-length-3 c = search needs
-
-returns-7 : tie.Need-returns-7
-returns-7 c =
-    let a = c .before .before .before .before .before .before .before .before .before .before .before .before .before .before .before .before .before .before .before .before .before .before .before .before .args in
-    rw (body-there (settingsAt (a .facts .now) (a .site .now) (a .settings)) (parsed (a .mounts .now)) (a .http .now) (a .head-len) (requestIn (take (a .head-len - 4) (a .http .now)) (a .places .now) (a .path .now) (a .line) (a .fields)) (length (a .out .now)) _ (sym (rw (c .before .before .before .before .before .before .before .before .before .before .before .before .before .m .given .1) at (c .before .before .before .before .before .before .before .before .before .before .before .before .before .before .before .search .ensures .answer))) (c .before .before .before .before .before .before .before .before .before .before .if1 .left) (c .before .before .before .before .before .before .before .before .before .if2 .left)) (has-written (settingsAt (a .facts .now) (a .site .now) (a .settings)) (routeOf (record { name = take (c .before .before .before .before .before .before .before .before .before .before .before .before .before .m .given .0 .0) (pathIn (a .path .now) (a .line)); value = (take (c .before .before .before .before .before .before .before .before .before .before .before .before .before .m .given .0 .1 .1 .0) (drop (c .before .before .before .before .before .before .before .before .before .before .before .before .before .m .given .0 .1 .0) (a .mounts .now))) }) (pathIn (a .path .now) (a .line))) (meaningOf (lineIn (take (a .head-len - 4) (a .http .now)) (a .line)) (fieldsIn (take (a .head-len - 4) (a .http .now)) (a .places .now) (a .fields)) (take (a .fields .body) (drop (a .head-len) (a .http .now)))) (a .mounts .now) (a .out .now) _ (c .before .before .before .before .before .before .before .before .before .before .before .before .before .m .given .0 .1 .0) (c .before .before .before .before .before .before .before .before .before .before .before .before .before .m .given .0 .1 .1 .0) (a .head-len + a .fields .body) _ ((rw (c .before .before .before .before .before .before .before .before .before .before .before .before .before .m .given .1) at (c .before .before .before .before .before .before .before .before .before .before .before .before .before .before .before .search .ensures .inside)) .1) (routed (settingsAt (a .facts .now) (a .site .now) (a .settings)) (meaningOf (lineIn (take (a .head-len - 4) (a .http .now)) (a .line)) (fieldsIn (take (a .head-len - 4) (a .http .now)) (a .places .now) (a .fields)) (take (a .fields .body) (drop (a .head-len) (a .http .now)))) (pathIn (a .path .now) (a .line)) (c .before .before .before .before .before .before .before .before .before .before .before .before .before .m .given .0 .0) (take (c .before .before .before .before .before .before .before .before .before .before .before .before .before .m .given .0 .1 .1 .0) (drop (c .before .before .before .before .before .before .before .before .before .before .before .before .before .m .given .0 .1 .0) (a .mounts .now))) (a .out .now) _ ((rw (c .before .before .before .before .before .before .before .before .before .before .before .before .before .m .given .1) at (c .before .before .before .before .before .before .before .before .before .before .before .before .before .before .before .search .ensures .inside)) .0) (rw (part (a .http .now) (a .head-len) (a .fields .body)) at (rw (c .before .w .given .1) at (c .before .before .before .before .before .write-request .ensures)))))
+returns-5 c =
+    let a = c .before .before .before .before .before .before .before .before .before .before .before .before .before .before .before .before .before .before .before .before .before .before .args in
+    rw ((body-there (settingsAt (a .facts .now) (a .site .now) (a .settings)) (parsed (a .mounts .now)) (a .http .now) (a .head-len) (requestIn (take (a .head-len - 4) (a .http .now)) (a .places .now) (a .path .now) (a .line) (a .fields)) (length (a .out .now)) _ (sym (rw (c .before .before .before .before .before .before .before .before .before .before .before .m .given .1) at (c .before .before .before .before .before .before .before .before .before .before .before .before .before .search .ensures .answer))) (c .before .before .before .before .before .before .before .before .if1 .left) (c .before .before .before .before .before .before .before .if2 .left)), c .answered .ensures) (answered-by (settingsAt (a .facts .now) (a .site .now) (a .settings)) (routeOf (record { name = take (c .before .before .before .before .before .before .before .before .before .before .before .m .given .0 .0) (pathIn (a .path .now) (a .line)); value = (take (c .before .before .before .before .before .before .before .before .before .before .before .m .given .0 .1 .1 .0) (drop (c .before .before .before .before .before .before .before .before .before .before .before .m .given .0 .1 .0) (a .mounts .now))) }) (pathIn (a .path .now) (a .line))) (meaningOf (lineIn (take (a .head-len - 4) (a .http .now)) (a .line)) (fieldsIn (take (a .head-len - 4) (a .http .now)) (a .places .now) (a .fields)) (take (a .fields .body) (drop (a .head-len) (a .http .now)))) (a .mounts .now) (a .out .now) _ (c .before .before .before .before .before .before .before .before .before .before .before .m .given .0 .1 .0) (c .before .before .before .before .before .before .before .before .before .before .before .m .given .0 .1 .1 .0) (a .head-len + a .fields .body) _ ((rw (c .before .before .before .before .before .before .before .before .before .before .before .m .given .1) at (c .before .before .before .before .before .before .before .before .before .before .before .before .before .search .ensures .inside)) .1) (routed (settingsAt (a .facts .now) (a .site .now) (a .settings)) (meaningOf (lineIn (take (a .head-len - 4) (a .http .now)) (a .line)) (fieldsIn (take (a .head-len - 4) (a .http .now)) (a .places .now) (a .fields)) (take (a .fields .body) (drop (a .head-len) (a .http .now)))) (pathIn (a .path .now) (a .line)) (c .before .before .before .before .before .before .before .before .before .before .before .m .given .0 .0) (take (c .before .before .before .before .before .before .before .before .before .before .before .m .given .0 .1 .1 .0) (drop (c .before .before .before .before .before .before .before .before .before .before .before .m .given .0 .1 .0) (a .mounts .now))) (a .out .now) _ ((rw (c .before .before .before .before .before .before .before .before .before .before .before .m .given .1) at (c .before .before .before .before .before .before .before .before .before .before .before .before .before .search .ensures .inside)) .0) (rw (part (a .http .now) (a .head-len) (a .fields .body)) at (c .before .before .before .write-request .ensures))))
 
 pub forward-spec : {M : Type 1} → statement M
 forward-spec =
@@ -131,13 +107,6 @@ forward-spec =
     part-body-start
     part-body-end
     write-request-requires
-    enum-known-w
-    enum-known-w-2
-    enum-known-w-3
-    enum-told-2
+    answered-requires
     same-length
-    returns-5
-    same-length-2
-    returns-6
-    same-length-3
-    returns-7)
+    returns-5)
