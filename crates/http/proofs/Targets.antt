@@ -1,6 +1,6 @@
 -- Laws of targets: what the tests of each step say.
 -- Assumes nothing.
-use Prim.Native.Nat.{ℕ, _+_, _-_, _≤_, _<_}
+use Prim.Native.Nat.{ℕ, min, _+_, _-_, _≤_, _<_}
 use mathlib.Core.Path.{_≡_, refl, sym, ap, _∙_}
 use mathlib.Core.Bool.{Bool, true, false, cond, not, _&&_}
 use mathlib.Core.List.{List}
@@ -195,7 +195,7 @@ raw-gives t k n = by (rawRight t) refl
     by true q e = record { right = q; length-is = cc; slashes-are = cc }
     by false q e = record { right = cc; length-is = cc; slashes-are = cc }
 
-module _ (t d : List ℕ) (k n : ℕ) (e : rawOf t ≡ RawPath k n) (room : 4096 ≤ length d) where
+module _ (t d : List ℕ) (k n : ℕ) (e : rawOf t ≡ RawPath k n) (room : min (length t) 4096 ≤ length d) where
   pub raw-inside : k ≤ length t
   raw-inside = omega (arith, raw-gives t k n e .length-is, path-length t, run-le (other 63) t)
 
@@ -215,7 +215,11 @@ module _ (t d : List ℕ) (k n : ℕ) (e : rawOf t ≡ RawPath k n) (room : 4096
     decoded-length : r ≡ length (decoded (pathOf t))
     decoded-length = w .ends ∙ zero-add (length (decoded (take k t))) ∙ ap (λ (p : List ℕ). length (decoded p)) path-part
 
-    decoded-room : length (decoded (pathOf t)) ≤ 4096
+    decoded-short : length (decoded (pathOf t)) ≤ 4096
+    decoded-short =
+        omega (arith, decoded-le 0 (pathOf t), path-length t, run-le (other 63) t, raw-says t (raw-gives t k n e .right) .short)
+
+    decoded-room : length (decoded (pathOf t)) ≤ length d
     decoded-room =
         omega (arith, decoded-le 0 (pathOf t), path-length t, run-le (other 63) t, raw-says t (raw-gives t k n e .right) .short)
 
@@ -229,7 +233,7 @@ module _ (t d : List ℕ) (k n : ℕ) (e : rawOf t ≡ RawPath k n) (room : 4096
     front-inside = omega (arith, decoded-length, decoded-room, same-room)
 
     pub front-short : r ≤ 4096
-    front-short = omega (arith, decoded-length, decoded-room)
+    front-short = omega (arith, decoded-length, decoded-short)
 
     front : take r d′ ≡ decoded (pathOf t)
     front =

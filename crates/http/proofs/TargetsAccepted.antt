@@ -1,6 +1,6 @@
 -- What callers need of targets: what an accepted target says, that it has no NUL, and what is left of the lent buffer.
 -- Assumes nothing.
-use Prim.Native.Nat.{ℕ, _+_, _≤_}
+use Prim.Native.Nat.{ℕ, min, _+_, _≤_}
 use mathlib.Core.Path.{_≡_, refl, sym, ap, _∙_}
 use mathlib.Core.Bool.{Bool, true, false, cond, _&&_}
 use mathlib.Core.List.{List, [], _∷_}
@@ -118,12 +118,12 @@ written-short t = by (rawRight t) refl
     by true e = omega (arith, decoded-path-le t, raw-says t e .short)
     by false e = omega arith
 
-module _ (t d d′ : List ℕ) (r : TargetPlace) (room : 4096 ≤ length d) (w : TargetRead t d d′ r) where
+module _ (t d d′ : List ℕ) (r : TargetPlace) (room : min (length t) 4096 ≤ length d) (w : TargetRead t d d′ r) where
   pub buffer-length : length d′ ≡ length d
-  buffer-length = ap length (w .buffer) ∙ length-over d 0 (written t) (omega (arith, written-short t))
+  buffer-length = ap length (w .buffer) ∙ length-over d 0 (written t) (omega (arith, written-short t, written-le t))
 
   pub buffer-rest : (n : ℕ) → length t ≤ n → drop n d′ ≡ drop n d
-  buffer-rest n h = ap (drop n) (w .buffer) ∙ over-rest d 0 (written t) (omega (arith, written-short t)) n (omega (arith, written-le t))
+  buffer-rest n h = ap (drop n) (w .buffer) ∙ over-rest d 0 (written t) (omega (arith, written-short t, written-le t)) n (omega (arith, written-le t))
 
 -- .. and of an accepted target it is the decoded path
 pub buffer-path :
@@ -135,7 +135,7 @@ buffer-path t d d′ k n w =
 
 -- What an answer that tells lengths says.
 
-module _ (t d d′ : List ℕ) (k n : ℕ) (room : 4096 ≤ length d) (w : TargetRead t d d′ (Path k n)) where
+module _ (t d d′ : List ℕ) (k n : ℕ) (room : min (length t) 4096 ≤ length d) (w : TargetRead t d d′ (Path k n)) where
   pub read-accepted : Accepted t (record { path = take n d′; query = drop (k + 1) t })
   read-accepted = accepted t _ (sym (w .answer))
 

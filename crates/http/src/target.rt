@@ -1,7 +1,7 @@
 // A request's target: the rules it obeys, its path and query.
 ghost use mathlib.Core.Path.{_≡_};
 ghost use mathlib.Core.Bool.{cond};
-ghost use Prim.Native.Nat.{_≤_};
+ghost use Prim.Native.Nat.{min, _≤_};
 ghost use lib.Dec.{eqb};
 ghost use lib.ListN.{length};
 ghost use Rattle.octets.specs.KindTable.{table};
@@ -142,9 +142,9 @@ fn decoded_path(d: &[u8], before: usize) -> bool
     segments(d)
 }
 
-// The target t. The decoded path is written to the front of the buffer, which has room for the longest target.
+// The target t. The decoded path is written to the front of the buffer, which has room for t, or for the longest target that is accepted.
 pub fn target(t: &[u8], path: &mut [u8]) -> TargetPlace
-    requires { ⌜ 4096 ≤ length (now path) ⌝ }
+    requires { ⌜ min (length (now t)) 4096 ≤ length (now path) ⌝ }
     ensures { λ r. ⌜ TargetRead (now (t .entry)) (now (path .entry)) (now (path .exit)) r ⌝ }
 {
     let kinds = octets::kind_table::kinds();

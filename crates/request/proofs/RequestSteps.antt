@@ -6,7 +6,7 @@ use mathlib.Core.Path.{_≡_, refl, sym, ap, _∙_}
 use mathlib.Core.Bool.{Bool, true, false, _||_, false≢true}
 use mathlib.Core.List.{List}
 use native.Mathlib.Omega.{arith}
-use lib.ListN.{length, take, drop, getD, length-take}
+use lib.ListN.{length, take, drop, getD, length-take, length-drop}
 use Rattle.octets.specs.Text.{bytes}
 use Rattle.octets.specs.Outcome.{Outcome, refused, gives, then}
 use Rattle.octets.specs.Kinds.{isName}
@@ -59,6 +59,10 @@ startWith o = then o (λ first. then (targetOf (first .target)) (λ target. give
 abbrev startFrom : FirstLine → Outcome Target → Outcome Start
 startFrom first o = then o (λ target. gives (record { first = first; path = target .path }))
 
+-- a buffer with room for the head has room for a part of it
+pub part-room : (head path : List ℕ) (t n : ℕ) → min (length head) 4096 ≤ length path → min (length (take n (drop t head))) 4096 ≤ length path
+part-room head path t n h = simp (length-take, length-drop) (omega arith)
+
 module _ (head : List ℕ) (end : ℕ) (at : end ≡ 0 + lineRun (drop 0 head)) where
   end-is : end ≡ lineRun head
   end-is = omega arith
@@ -94,7 +98,10 @@ module _ (head : List ℕ) (end : ℕ) (at : end ≡ 0 + lineRun (drop 0 head)) 
             known = tt;
           }
 
-      module _ (p q : ℕ) (w : TargetRead (take n (drop t head)) before after (Path p q)) (room : 4096 ≤ length before) where
+      module _ (p q : ℕ) (w : TargetRead (take n (drop t head)) before after (Path p q)) (whole : min (length head) 4096 ≤ length before) where
+        room : min (length (take n (drop t head))) 4096 ≤ length before
+        room = part-room head before t n whole
+
         facts : LineKnown head after (record { end = end; method = m; target = t; len = n; minor = d; path = p; decoded = q })
         facts =
             let s = take n (drop t head) in

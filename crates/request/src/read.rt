@@ -1,6 +1,6 @@
 // The head of a request: where its parts stand.
 ghost use mathlib.Core.Path.{_≡_};
-ghost use Prim.Native.Nat.{_≤_};
+ghost use Prim.Native.Nat.{min, _≤_};
 ghost use lib.ListN.{length};
 ghost use Rattle.octets.specs.KindTable.{table};
 ghost use Rattle.http.specs.Lines.{lineRun};
@@ -39,7 +39,7 @@ pub enum Line {
 
 // The request line at the start of a head, and its target. The decoded path is written to the front of the buffer.
 fn read_line(kinds: &[u8; 256], head: &[u8], path: &mut [u8]) -> Line
-    requires { ⌜ (now kinds ≡ table) × (4096 ≤ length (now path)) ⌝ }
+    requires { ⌜ (now kinds ≡ table) × (min (length (now head)) 4096 ≤ length (now path)) ⌝ }
     ensures { λ r. ⌜ LineRead (now (head .entry)) (now (path .exit)) r ⌝ }
 {
     let end = line_end(head, 0);
@@ -140,7 +140,7 @@ pub enum Reading {
 // Reads a request's head, which is given without its CR LF CR LF. The decoded path is written to the front of path, and four numbers for
 // each field to places: the start and length of its name and of its value in head.
 pub fn read_request(kinds: &[u8; 256], head: &[u8], places: &mut [u64], path: &mut [u8]) -> Reading
-    requires { ⌜ (now kinds ≡ table) × (256 ≤ length (now places)) × (4096 ≤ length (now path)) ⌝ }
+    requires { ⌜ (now kinds ≡ table) × (256 ≤ length (now places)) × (min (length (now head)) 4096 ≤ length (now path)) ⌝ }
     ensures { λ r. ⌜ RequestRead (now (head .entry)) (now (places .exit)) (now (path .exit)) r ⌝ }
 {
     let l = read_line(kinds, head, path);

@@ -1,7 +1,7 @@
 -- `request::read::read_line` meets its contract.
 -- Assumes nothing.
-use Prim.Native.Nat.{_+_, _≤_}
-use Rattle.request.proofs.RequestSteps.{malformed, target-in, bad-target, line-read-whole}
+use Prim.Native.Nat.{_+_, _-_, _≤_}
+use Rattle.request.proofs.RequestSteps.{part-room, malformed, target-in, bad-target, line-read-whole}
 use Rattle.request.proofs.read.read_line.Statement.{statement}
 use Rattle.request.proofs.read.read_line.Tie as tie
 use Rattle.http.proofs.LineCuts.{line-le}
@@ -78,7 +78,10 @@ part-target-end : tie.Need-part-target-end
 part-target-end c = omega (arith, inside c)
 
 target-requires : tie.Need-target-requires
-target-requires c κs = search needs
+target-requires c κs =
+    let s = c .before .before .before .before .before .before .before .before .before .before in
+    let g = c .before .before .before .l .given .0 in
+    part-room (s .args .head .now) (s .args .path .now) (g .1 .0) (g .1 .0 + g .1 .1 .0 - g .1 .0) (s .pre .1)
 
 enum-known-t : tie.Need-enum-known-t
 enum-known-t c = search needs
