@@ -2,18 +2,18 @@
 -- Assumes nothing.
 use Prim.Native.Nat.{ℕ, min, _+_, _-_, _≤_, _<_}
 use mathlib.Core.Path.{_≡_, refl, sym, ap, subst, _∙_}
-use mathlib.Core.Bool.{Bool, true, false}
+use mathlib.Core.Bool.{Bool, true, false, false≢true}
 use mathlib.Core.List.{List, _++_}
 use native.Mathlib.Omega.{arith}
 use lib.Dec.{leb}
 use lib.ListN.{length, take, drop}
 use lib.Seq.{length-take-le}
-use borrow.Author.Tests.{leb-true, leb-false, le-leb, lt-leb}
+use borrow.Author.Tests.{leb-true, leb-false, le-leb, lt-leb, eq-eqb}
 use Rattle.octets.specs.Outcome.{Outcome, refused, gives, then, need}
 use Rattle.octets.specs.Decimal.{cap}
 use Rattle.scgi.specs.Block.{Header, parsed, printed}
 use Rattle.scgi.specs.Grammar.{netstring}
-use Rattle.scgi.specs.Write.{inRoom, WrittenOut}
+use Rattle.scgi.specs.Write.{inRoom, writingOutcome, outputAfter, WrittenOut}
 use Rattle.scgi.specs.declared.write.Writing.{Writing}
 use Rattle.scgi.specs.declared.write.Writing.the-variants.{Bytes, Refused as WriteRefused}
 use Rattle.http.specs.Head.{headOf}
@@ -27,19 +27,51 @@ use Rattle.request.specs.Request.{Request, requestOf}
 use Rattle.gateway.specs.Step.{Body, Forward, bodyOf, poolOf, writtenFor, forwardOf, stepWith, stepOf}
 use Rattle.request.specs.RequestRead.{cappedRequest}
 use Rattle.variables.specs.Block.{routeAt}
-use Rattle.gateway.specs.Stepping.{Answer, answerOf, steppingOutcome, PoolInside, Stepped, bytesIn, steppingBy, forwardFrom, roomFor}
+use Rattle.gateway.specs.Stepping.{Answer, answerOf, steppingOutcome, PoolInside, Stepped, bytesWithin, tooLarge, steppingBy, forwardFrom, headFrom, roomFor}
 use Rattle.gateway.specs.declared.step.Stepping.the-variants.{Refused}
 
 -- The block and the body: 22; 21.
 
-module _ (block body d : List ℕ) where
-  pub too-large : 16384 < length block → WrittenOut (bytesIn block body (length d)) d d (WriteRefused 22)
+module _ (limit : ℕ) (block body d : List ℕ) where
+  pub too-large : limit < length block → WrittenOut (bytesWithin limit block body (length d)) d d (WriteRefused 22)
   too-large h =
-      let e = lt-leb (length block) 16384 h in
+      let e = lt-leb (length block) limit h in
       record { answer = rw e; output = rw e }
 
-  pub not-too-large : length block ≤ 16384 → bytesIn block body (length d) ≡ inRoom (netstring block ++ body) (length d)
-  not-too-large h = rw (le-leb (length block) 16384 h)
+  pub not-too-large : length block ≤ limit → bytesWithin limit block body (length d) ≡ inRoom (netstring block ++ body) (length d)
+  not-too-large h = rw (le-leb (length block) limit h)
+
+-- A try with a lower limit: where it gives 22 nothing is written, and any other answer holds for the limit too.
+
+untouched : (o : Outcome (List ℕ)) (d : List ℕ) (k : ℕ) → refused k ≡ then o (λ w. gives (length w)) → outputAfter o d ≡ d
+untouched (refused n) d k e = refl
+untouched (gives w) d k e = cc
+
+not-22 : (w : Writing) → tooLarge w ≡ false → writingOutcome w ≡ refused 22 → ⊥
+not-22 (Bytes n) t e =
+    let z : _≡_ {A = ℕ} 0 1 = cc in
+    omega arith
+not-22 (WriteRefused k) t e =
+    let z : k ≡ 22 = cc in
+    false≢true (sym t ∙ eq-eqb k 22 z)
+
+module _ (limit : ℕ) (block body d after : List ℕ) where
+  pub tried-again : (w : Writing) → WrittenOut (bytesWithin limit block body (length d)) d after w → tooLarge w ≡ true → after ≡ d
+  tried-again (Bytes n) x t = absurd (false≢true t)
+  tried-again (WriteRefused k) x t = x .output ∙ untouched (bytesWithin limit block body (length d)) d k (x .answer)
+
+  pub tried :
+      (w : Writing) → WrittenOut (bytesWithin limit block body (length d)) d after w → tooLarge w ≡ false → limit ≤ 16384
+      → WrittenOut (bytesWithin 16384 block body (length d)) d after w
+  tried w x t h = by (leb (length block) limit) refl
+    where
+      by : (b : Bool) → leb (length block) limit ≡ b → WrittenOut (bytesWithin 16384 block body (length d)) d after w
+      by true e =
+          let l : length block ≤ limit = leb-true (length block) limit e in
+          subst (λ (o : Outcome (List ℕ)). WrittenOut o d after w) (not-too-large limit block body d l ∙ sym (not-too-large 16384 block body d (omega arith))) x
+      by false e =
+          let full : then (bytesWithin limit block body (length d)) (λ v. gives (length v)) ≡ refused 22 = rw e in
+          absurd (not-22 w t (x .answer ∙ full))
 
 -- A refusal leaves the output as it is.
 
@@ -56,7 +88,7 @@ module _ (s : Settings) (r : Route) (m : Meaning) (pool : List ℕ) (used room :
   counted o = then o (λ n. gives (record { written = n; pool = pool; used = used }))
 
   abbrev bytes : Outcome (List ℕ)
-  bytes = bytesIn (printed (variables s r m)) (m .body) room
+  bytes = bytesWithin 16384 (printed (variables s r m)) (m .body) room
 
   both-tests :
       {A : Type 0} (g : Forward → A) (h : List ℕ → A) → g forward ≡ h (forward .scgi) → (t u : Bool)
@@ -101,7 +133,7 @@ module _ (s : Settings) (r : Route) (m : Meaning) (mounts d after : List ℕ) (s
   o = roomFor (length d) (writtenFor s r m pool used)
 
   pub answered-by :
-      (w : Writing) → start + len ≤ length mounts → WrittenOut (bytesIn (printed (variables s r m)) (m .body) (length d)) d after w
+      (w : Writing) → start + len ≤ length mounts → WrittenOut (bytesWithin 16384 (printed (variables s r m)) (m .body) (length d)) d after w
       → Stepped o mounts d after (steppingBy start len used w)
   answered-by w h x = record { answer = says w x; pool = inside w; output = rw (scgi-is s r m pool used (length d)) (x .output) }
     where
@@ -110,7 +142,7 @@ module _ (s : Settings) (r : Route) (m : Meaning) (mounts d after : List ℕ) (s
       inside (WriteRefused k) = tt
 
       says :
-          (v : Writing) → WrittenOut (bytesIn (printed (variables s r m)) (m .body) (length d)) d after v
+          (v : Writing) → WrittenOut (bytesWithin 16384 (printed (variables s r m)) (m .body) (length d)) d after v
           → steppingOutcome mounts (steppingBy start len used v) ≡ then o (λ f. gives (answerOf f))
       says (Bytes n) y = ap (counted s r m pool used (length d)) (y .answer) ∙ sym (answer-is s r m pool used (length d))
       says (WriteRefused k) y = ap (counted s r m pool used (length d)) (y .answer) ∙ sym (answer-is s r m pool used (length d))
@@ -123,10 +155,10 @@ route-is path n pool h = ap (λ (k : ℕ). record { scriptName = take n path; pa
 -- the bytes that were written for the route of a path's first n bytes
 pub routed :
     (s : Settings) (m : Meaning) (path : List ℕ) (n : ℕ) (pool d after : List ℕ) {w : Writing} → n ≤ length path
-    → WrittenOut (bytesIn (printed (variables s (routeAt path n) m)) (m .body) (length d)) d after w
-    → WrittenOut (bytesIn (printed (variables s (routeOf (record { name = take n path; value = pool }) path) m)) (m .body) (length d)) d after w
+    → WrittenOut (bytesWithin 16384 (printed (variables s (routeAt path n) m)) (m .body) (length d)) d after w
+    → WrittenOut (bytesWithin 16384 (printed (variables s (routeOf (record { name = take n path; value = pool }) path) m)) (m .body) (length d)) d after w
 routed s m path n pool d after {w} h x =
-    subst (λ (r : Route). WrittenOut (bytesIn (printed (variables s r m)) (m .body) (length d)) d after w) (route-is path n pool h) x
+    subst (λ (r : Route). WrittenOut (bytesWithin 16384 (printed (variables s r m)) (m .body) (length d)) d after w) (route-is path n pool h) x
 
 module _ (s : Settings) (ms : Outcome (List Header)) (http : List ℕ) (h : ℕ) (q : Request) (room : ℕ) where
   pub no-mount : (k : ℕ) → then ms (λ l. mountFor l (q .path)) ≡ refused k → roomFor room (forwardFrom s ms http h q) ≡ refused k
@@ -148,6 +180,17 @@ module _ (s : Settings) (ms : Outcome (List Header)) (http : List ℕ) (h : ℕ)
           ≡ roomFor room (writtenFor s (routeOf m (q .path)) (meaningOf (q .first) (q .fields) (take (q .bodyLength) (drop h http))) (poolOf m) (h + q .bodyLength))
       unfolding bodyOf
       body-there l = rw (e, le-leb (q .bodyLength) 1048576 b, le-leb (h + q .bodyLength) (length http) l)
+
+-- From the head on: 12 to 18.
+
+module _ (s : Settings) (ms : Outcome (List Header)) (http : List ℕ) (h room : ℕ) where
+  pub head-refused : (k : ℕ) → refused k ≡ then (requestOf (take (h - 4) http)) (λ q. gives (cappedRequest q)) → roomFor room (headFrom s ms http h) ≡ refused k
+  head-refused k e = ap (λ (o : Outcome Request). roomFor room (then o (forwardFrom s ms http h))) (sym e)
+
+  pub head-read :
+      (q : Request) → gives q ≡ then (requestOf (take (h - 4) http)) (λ x. gives (cappedRequest x))
+      → roomFor room (headFrom s ms http h) ≡ roomFor room (forwardFrom s ms http h q)
+  head-read q e = ap (λ (o : Outcome Request). roomFor room (then o (forwardFrom s ms http h))) (sym e)
 
 -- The whole step.
 
@@ -191,10 +234,8 @@ module _ (facts site mounts http : List ℕ) (room : ℕ) where
     unfolding stepWith forwardOf
     step-head k f = rw (e, f)
 
-    pub step-request :
-        (h : ℕ) (o : Outcome Request) → parsed mounts ≡ gives ms → headOf http ≡ gives h
-        → o ≡ then (requestOf (take (h - 4) http)) (λ q. gives (cappedRequest q))
-        → stepOf facts site mounts http room ≡ roomFor room (then o (forwardFrom s (parsed mounts) http h))
+    pub step-headed :
+        (h : ℕ) → parsed mounts ≡ gives ms → headOf http ≡ gives h
+        → stepOf facts site mounts http room ≡ roomFor room (headFrom s (parsed mounts) http h)
     unfolding stepWith forwardOf
-    step-request h o p f g =
-        rw (e, f, p) (ap (roomFor room) (capped-rest s ms http h (requestOf (take (h - 4) http)) ∙ ap (λ (x : Outcome Request). then x (forwardFrom s (gives ms) http h)) (sym g)))
+    step-headed h p f = rw (e, f, p) (ap (roomFor room) (capped-rest s ms http h (requestOf (take (h - 4) http))))

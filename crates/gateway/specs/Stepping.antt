@@ -1,9 +1,10 @@
 -- The step's answer, and the output after it.
 -- Assumes nothing.
-use Prim.Native.Nat.{ℕ, _+_, _≤_}
+use Prim.Native.Nat.{ℕ, _+_, _-_, _≤_}
 use mathlib.Core.Path.{_≡_}
+use mathlib.Core.Bool.{Bool, false}
 use mathlib.Core.List.{List, _++_}
-use lib.Dec.{leb}
+use lib.Dec.{leb, eqb}
 use lib.ListN.{length, take, drop}
 use Rattle.octets.specs.Outcome.{Outcome, refused, gives, then, need}
 use Rattle.scgi.specs.Block.{Header}
@@ -14,7 +15,8 @@ use Rattle.scgi.specs.declared.write.Writing.the-variants.{Bytes, Refused as Wr
 use Rattle.lent.specs.Settings.{Settings}
 use Rattle.lent.specs.Mounts.{mountFor, routeOf}
 use Rattle.variables.specs.Meaning.{meaningOf}
-use Rattle.request.specs.Request.{Request}
+use Rattle.request.specs.Request.{Request, requestOf}
+use Rattle.request.specs.RequestRead.{cappedRequest}
 use Rattle.gateway.specs.Step.{Forward, poolOf, bodyOf, writtenFor}
 use Rattle.gateway.specs.declared.step.Stepping.{Stepping}
 use Rattle.gateway.specs.declared.step.Stepping.the-variants.{Written, Refused}
@@ -46,9 +48,14 @@ pub record Stepped (o : Outcome Forward) (mounts before after : List ℕ) (r : S
 
 -- For the code, which makes the step in parts.
 
--- 22; 21: the SCGI bytes of a block and a body
-abbrev pub bytesIn : List ℕ → List ℕ → ℕ → Outcome (List ℕ)
-bytesIn block body room = then (need (leb (length block) 16384) 22 (gives (netstring block ++ body))) (λ w. inRoom w room)
+-- 22; 21: the SCGI bytes of a block of at most so many bytes, and a body
+abbrev pub bytesWithin : ℕ → List ℕ → List ℕ → ℕ → Outcome (List ℕ)
+bytesWithin limit block body room = then (need (leb (length block) limit) 22 (gives (netstring block ++ body))) (λ w. inRoom w room)
+
+-- the writer's answer is 22
+abbrev pub tooLarge : Writing → Bool
+tooLarge (Bytes n) = false
+tooLarge (WriteRefused k) = eqb k 22
 
 -- the step's answer by the writer's, with the pool's place and the bytes used
 abbrev pub steppingBy : ℕ → ℕ → ℕ → Writing → Stepping
@@ -61,6 +68,10 @@ forwardFrom s mounts http h q =
     then (then mounts (λ ms. mountFor ms (q .path))) (λ m.
     then (bodyOf http h (q .bodyLength)) (λ b.
     writtenFor s (routeOf m (q .path)) (meaningOf (q .first) (q .fields) (b .body)) (poolOf m) (b .used)))
+
+-- 12 to 18; 19; 9; 1; 22: of a request whose head has h bytes
+abbrev pub headFrom : Settings → Outcome (List Header) → List ℕ → ℕ → Outcome Forward
+headFrom s mounts http h = then (then (requestOf (take (h - 4) http)) (λ q. gives (cappedRequest q))) (forwardFrom s mounts http h)
 
 -- 21
 abbrev pub roomFor : ℕ → Outcome Forward → Outcome Forward

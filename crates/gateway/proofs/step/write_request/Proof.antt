@@ -1,60 +1,63 @@
 -- `gateway::step::write_request` meets its contract.
 -- Assumes nothing.
-use mathlib.Core.Path.{sym}
-use lib.Seq.{length-take-le}
+use mathlib.Core.Path.{sym, _∙_}
+use native.Mathlib.Omega.{arith}
 use Rattle.variables.specs.Block.{blockAt}
-use Rattle.variables.proofs.Puts.{put-front, put-small, put-large, put-within}
-use Rattle.gateway.proofs.StepParts.{too-large, not-too-large}
+use Rattle.gateway.proofs.StepParts.{tried, tried-again}
 use borrow.Author.Needs.{needs}
 use Rattle.gateway.proofs.step.write_request.Statement.{statement}
 use Rattle.gateway.proofs.step.write_request.Tie as tie
 
-slice-aggregate-put-block : tie.Need-slice-aggregate-put-block
-slice-aggregate-put-block c = search needs
-
-put-block-requires : tie.Need-put-block-requires
-put-block-requires c κs = search needs
-
-enum-known-p : tie.Need-enum-known-p
-enum-known-p c = search needs
-
-enum-told : tie.Need-enum-told
-enum-told c = search needs
-
-returns : tie.Need-returns
-returns c =
-    let a = c .before .before .before .before .before .before .before .before .before .before .before .before .args in
-    too-large (blockAt (a .facts .now) (a .site .now) (a .head .now) (a .places .now) (a .path .now) (a .body .now) (a .settings) (a .line) (a .fields) (a .name-len)) (a .body .now) (a .out .now) (put-large (rw (c .enum-told .given .1) at (c .before .before .before .put-block .ensures)))
-
-array-share-prefix-block : tie.Need-array-share-prefix-block
-array-share-prefix-block c = put-within (rw (c .before .p .given .1) at (c .before .before .before .before .put-block .ensures))
-
-slice-aggregate-write-parts : tie.Need-slice-aggregate-write-parts
-slice-aggregate-write-parts c = sym (length-take-le _ _ (put-within (rw (c .before .before .p .given .1) at (c .before .before .before .before .before .put-block .ensures))))
-
-write-parts-requires : tie.Need-write-parts-requires
-write-parts-requires c κs = (rw (put-front (rw (c .before .before .before .p .given .1) at (c .before .before .before .before .before .before .put-block .ensures))) (put-small (rw (c .before .before .before .p .given .1) at (c .before .before .before .before .before .before .put-block .ensures))), c .before .before .before .before .before .before .before .before .before .before .before .before .before .before .before .pre .1)
+write-large-requires : tie.Need-write-large-requires
+write-large-requires c κs = search needs
 
 same-length : tie.Need-same-length
 same-length c = search needs
 
+returns : tie.Need-returns
+returns c = search needs
+
+slice-aggregate-write-by : tie.Need-slice-aggregate-write-by
+slice-aggregate-write-by c = search needs
+
+write-by-requires : tie.Need-write-by-requires
+write-by-requires c κs = search needs
+
+too-large-requires : tie.Need-too-large-requires
+too-large-requires c κs = search needs
+
+write-large-requires-2 : tie.Need-write-large-requires-2
+write-large-requires-2 c κs = search needs
+
+same-length-2 : tie.Need-same-length-2
+same-length-2 c = search needs
+
 returns-2 : tie.Need-returns-2
 returns-2 c =
-    let a = c .before .before .before .before .before .before .before .before .before .before .before .before .before .before .before .before .before .before .args in
-    let w = rw (c .before .before .before .before .before .before .p .given .1) at (c .before .before .before .before .before .before .before .before .before .put-block .ensures) in
-    rw (not-too-large (blockAt (a .facts .now) (a .site .now) (a .head .now) (a .places .now) (a .path .now) (a .body .now) (a .settings) (a .line) (a .fields) (a .name-len)) (a .body .now) (a .out .now) (put-small w)) (rw (put-front w) at (c .before .before .write-parts .ensures))
+    let a = c .before .before .before .before .before .before .before .before .before .before .before .before .before .before .before .before .before .before .before .before .args in
+    let left = tried-again 2048 (blockAt (a .facts .now) (a .site .now) (a .head .now) (a .places .now) (a .path .now) (a .body .now) (a .settings) (a .line) (a .fields) (a .name-len)) (a .body .now) (a .out .now) _ _ (c .before .before .before .before .before .before .before .before .before .write-by .ensures) (sym (c .before .before .before .before .before .too-large .ensures) ∙ c .before .before .before .before .if2 .taken) in
+    rw left at (c .before .before .write-large2 .ensures)
+
+same-length-3 : tie.Need-same-length-3
+same-length-3 c = search needs
+
+returns-3 : tie.Need-returns-3
+returns-3 c =
+    let a = c .before .before .before .before .before .before .before .before .before .before .before .before .before .before .before .before .args in
+    tried 2048 (blockAt (a .facts .now) (a .site .now) (a .head .now) (a .places .now) (a .path .now) (a .body .now) (a .settings) (a .line) (a .fields) (a .name-len)) (a .body .now) (a .out .now) _ _ (c .before .before .before .before .before .write-by .ensures) (sym (c .before .too-large .ensures) ∙ c .if2 .left) (omega arith)
 
 pub write-request-spec : {M : Type 1} → statement M
 write-request-spec =
     tie.close
     (tie.spec
-    slice-aggregate-put-block
-    put-block-requires
-    enum-known-p
-    enum-told
-    returns
-    array-share-prefix-block
-    slice-aggregate-write-parts
-    write-parts-requires
+    write-large-requires
     same-length
-    returns-2)
+    returns
+    slice-aggregate-write-by
+    write-by-requires
+    too-large-requires
+    write-large-requires-2
+    same-length-2
+    returns-2
+    same-length-3
+    returns-3)

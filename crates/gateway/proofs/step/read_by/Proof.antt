@@ -1,0 +1,98 @@
+-- `gateway::step::read_by` meets its contract.
+-- Assumes nothing.
+use Prim.Native.Nat.{_-_}
+use mathlib.Core.Path.{sym, _∙_}
+use native.Mathlib.Omega.{arith}
+use lib.ListN.{length, length-take}
+use lib.Seq.{length-take-le}
+use Rattle.scgi.specs.Block.{parsed}
+use Rattle.lent.specs.Places.{settingsAt}
+use Rattle.gateway.specs.Stepping.{headFrom, roomFor}
+use Rattle.gateway.proofs.StepParts.{left-alone, head-refused, head-read}
+use borrow.Author.Needs.{needs}
+use Rattle.gateway.proofs.step.read_by.Statement.{statement}
+use Rattle.gateway.proofs.step.read_by.Tie as tie
+
+kinds-requires : tie.Need-kinds-requires
+kinds-requires c κs = search needs
+
+sub-read-request : tie.Need-sub-read-request
+sub-read-request c = search needs
+
+slice-aggregate-read-request : tie.Need-slice-aggregate-read-request
+slice-aggregate-read-request c = sym (length-take-le _ _ (omega (arith, c .before .before .before .before .before .before .before .before .before .pre .3)))
+
+slice-aggregate-read-request-2 : tie.Need-slice-aggregate-read-request-2
+slice-aggregate-read-request-2 c = search needs
+
+read-request-requires : tie.Need-read-request-requires
+read-request-requires c κs = (c .before .before .before .before .kinds .ensures, search needs, simp length-take (omega (arith, c .before .before .before .before .before .before .before .before .before .before .before .pre .4)))
+
+enum-known-q : tie.Need-enum-known-q
+enum-known-q c = search needs
+
+enum-known-q-2 : tie.Need-enum-known-q-2
+enum-known-q-2 c = search needs
+
+enum-known-q-3 : tie.Need-enum-known-q-3
+enum-known-q-3 c = search needs
+
+enum-told : tie.Need-enum-told
+enum-told c = search needs
+
+same-length : tie.Need-same-length
+same-length c = search needs
+
+returns : tie.Need-returns
+returns c = search needs
+
+same-length-2 : tie.Need-same-length-2
+same-length-2 c = search needs
+
+returns-2 : tie.Need-returns-2
+returns-2 c =
+    let a = c .before .before .before .before .before .before .before .before .before .before .before .before .before .before .before .before .before .before .before .before .before .args in
+    left-alone (roomFor (length (a .out .now)) (headFrom (settingsAt (a .facts .now) (a .site .now) (a .settings)) (parsed (a .mounts .now)) (a .http .now) (a .head-len))) (a .mounts .now) (a .out .now) _
+    (head-refused (settingsAt (a .facts .now) (a .site .now) (a .settings)) (parsed (a .mounts .now)) (a .http .now) (a .head-len) (length (a .out .now)) _ ((rw (c .before .before .before .before .q2 .given .1 ∙ c .before .q3 .given .1) at (c .before .before .before .before .before .before .before .before .before .read-request .ensures)) .answer))
+
+slice-aggregate-forward : tie.Need-slice-aggregate-forward
+slice-aggregate-forward c = search needs
+
+forward-requires : tie.Need-forward-requires
+forward-requires c κs =
+    let s = c .before .before .before .before .before .before .before .before .before .before .before .before .before .before .before .before .before .before .before .before .before in
+    (s .pre .0, s .pre .1, s .pre .2, s .pre .3, search needs, (rw (c .before .before .before .before .q .given .1) at (c .before .before .before .before .before .before .before .before .before .read-request .ensures)) .known .0, (rw (c .before .before .before .before .q .given .1) at (c .before .before .before .before .before .before .before .before .before .read-request .ensures)) .known .1)
+
+same-length-3 : tie.Need-same-length-3
+same-length-3 c = search needs
+
+same-length-4 : tie.Need-same-length-4
+same-length-4 c = search needs
+
+returns-3 : tie.Need-returns-3
+returns-3 c =
+    let a = c .before .before .before .before .before .before .before .before .before .before .before .before .before .before .before .before .before .before .before .before .before .before .before .before .args in
+    rw (head-read (settingsAt (a .facts .now) (a .site .now) (a .settings)) (parsed (a .mounts .now)) (a .http .now) (a .head-len) (length (a .out .now)) _ ((rw (c .before .before .before .before .before .before .before .q .given .1) at (c .before .before .before .before .before .before .before .before .before .before .before .before .read-request .ensures)) .answer)) (c .before .before .forward .ensures)
+
+pub read-by-spec : {M : Type 1} → statement M
+read-by-spec =
+    tie.close
+    (tie.spec
+    kinds-requires
+    sub-read-request
+    slice-aggregate-read-request
+    slice-aggregate-read-request-2
+    read-request-requires
+    enum-known-q
+    enum-known-q-2
+    enum-known-q-3
+    enum-told
+    same-length
+    returns
+    same-length-2
+    returns-2
+    slice-aggregate-forward
+    forward-requires
+    same-length-3
+    same-length-4
+    returns-3)
