@@ -15,7 +15,7 @@ use Rattle.octets.specs.Outcome.{refused, gives, given}
 use Rattle.octets.proofs.Bools.{and-left, and-right}
 use Rattle.octets.proofs.Outcomes.{given-gives}
 use Rattle.octets.proofs.Lists.{next, there, part-more}
-use Rattle.http.specs.Head.{endsHead, endFrom, headOf}
+use Rattle.http.specs.Head.{endsHead, endFrom, Passed, headOf}
 
 -- a head within the limit, and one that may reach past it
 pub under-limit : (s : List ℕ) → length s < 8192 → headOf s ≡ given (endFrom 0 s) 1
@@ -58,26 +58,48 @@ module _ (s : List ℕ) where
   pub end-here : (i : ℕ) → i < length s → endsHead (drop i s) ≡ true → endFrom i (drop i s) ≡ some (i + 4)
   end-here i h e = here i h ∙ ap (λ (t : Bool). cond t (some (i + 4)) (endFrom (i + 1) (drop (i + 1) s))) e
 
-  pub end-later : (i j : ℕ) → i + 1 ≡ j → i < length s → endsHead (drop i s) ≡ false → endFrom i (drop i s) ≡ endFrom j (drop j s)
+  end-later : (i j : ℕ) → i + 1 ≡ j → i < length s → endsHead (drop i s) ≡ false → endFrom i (drop i s) ≡ endFrom j (drop j s)
   end-later i j q h e =
       here i h
       ∙ ap (λ (t : Bool). cond t (some (i + 4)) (endFrom (i + 1) (drop (i + 1) s))) e
       ∙ ap (λ (k : ℕ). endFrom k (drop k s)) q
 
-  -- a byte above CR lies in no CR LF CR LF
-  module _ (i : ℕ) (w : i + 3 < length s) (b : 13 < getD s (i + 3) 0) where
-    not-lf : eqb (getD s (i + 3) 0) 10 ≡ false
-    not-lf = ne-eqb (getD s (i + 3) 0) 10 (omega arith)
+  -- a place where none begins is passed, and then what is passed from the next place on
+  pub one-on : (from i r : ℕ) → Passed s from i → i < length s → endsHead (drop i s) ≡ false → Passed s (i + 1) r → Passed s from r
+  one-on from i r p h e n =
+      record { onward = omega (arith, p .onward, n .onward); inside = n .inside; same = p .same ∙ end-later i (i + 1) refl h e ∙ n .same }
 
-    not-cr : eqb (getD s (i + 3) 0) 13 ≡ false
-    not-cr = ne-eqb (getD s (i + 3) 0) 13 (omega arith)
+  -- a byte above CR lies in no CR LF CR LF, so that a place four bytes on may be taken
+  module _ (i m j : ℕ) (q : i + 3 ≡ m) (l : i + 4 ≡ j) (w : m < length s) (b : 13 < getD s m 0) where
+    not-lf : eqb (getD s m 0) 10 ≡ false
+    not-lf = ne-eqb (getD s m 0) 10 (omega arith)
 
-    pub four-later : endFrom i (drop i s) ≡ endFrom (i + 4) (drop (i + 4) s)
+    not-cr : eqb (getD s m 0) 13 ≡ false
+    not-cr = ne-eqb (getD s m 0) 13 (omega arith)
+
+    four-later : endFrom i (drop i s) ≡ endFrom j (drop j s)
     four-later =
-        end-later i (i + 1) refl (omega arith) (rw (byte i 3 (i + 3) refl, not-lf) (simp and-false))
-        ∙ end-later (i + 1) (i + 2) (omega arith) (omega arith) (rw (byte (i + 1) 2 (i + 3) (omega arith), not-cr) (simp and-false))
-        ∙ end-later (i + 2) (i + 3) (omega arith) (omega arith) (rw (byte (i + 2) 1 (i + 3) (omega arith), not-lf) (simp and-false))
-        ∙ end-later (i + 3) (i + 4) (omega arith) (omega arith) (rw (byte (i + 3) 0 (i + 3) (omega arith), not-cr))
+        end-later i (i + 1) refl (omega arith) (rw (byte i 3 m q, not-lf) (simp and-false))
+        ∙ end-later (i + 1) (i + 2) (omega arith) (omega arith) (rw (byte (i + 1) 2 m (omega arith), not-cr) (simp and-false))
+        ∙ end-later (i + 2) (i + 3) (omega arith) (omega arith) (rw (byte (i + 2) 1 m (omega arith), not-lf) (simp and-false))
+        ∙ end-later (i + 3) j (omega arith) (omega arith) (rw (byte (i + 3) 0 m (omega arith), not-cr))
+
+    pub four-on : (from : ℕ) → Passed s from i → Passed s from j
+    four-on from p = record { onward = omega (arith, p .onward); inside = omega arith; same = p .same ∙ four-later }
+
+  -- the same for the bytes that a turn of skip looks at
+  module _ (from i : ℕ) (w : i + 15 < length s) (p : Passed s from i) (b : 13 < getD s (i + 3) 0) where
+    pub pass-four : Passed s from (i + 4)
+    pass-four = four-on i (i + 3) (i + 4) refl refl (omega arith) b from p
+
+    pub pass-eight : 13 < getD s (i + 7) 0 → Passed s from (i + 8)
+    pass-eight d = four-on (i + 4) (i + 7) (i + 8) (omega arith) (omega arith) (omega arith) d from pass-four
+
+    pub pass-twelve : 13 < getD s (i + 7) 0 → 13 < getD s (i + 11) 0 → Passed s from (i + 12)
+    pass-twelve d e = four-on (i + 8) (i + 11) (i + 12) (omega arith) (omega arith) (omega arith) e from (pass-eight d)
+
+    pub pass-sixteen : 13 < getD s (i + 7) 0 → 13 < getD s (i + 11) 0 → 13 < getD s (i + 15) 0 → Passed s from (i + 16)
+    pass-sixteen d e f = four-on (i + 12) (i + 15) (i + 16) (omega arith) (omega arith) (omega arith) f from (pass-twelve d e)
 
 -- FOR CALLERS: a head lies in s and in the limit, and has its last four bytes
 some-end : (i : ℕ) (s : List ℕ) (n : ℕ) → endFrom i s ≡ some n → (i + 4 ≤ n) × (n ≤ i + length s)

@@ -1,8 +1,8 @@
 // Where the head of a request ends.
 ghost use mathlib.Core.Path.{_≡_};
-ghost use Prim.Native.Nat.{_+_, _<_};
+ghost use Prim.Native.Nat.{_+_, _≤_, _<_};
 ghost use lib.ListN.{length, drop};
-ghost use Rattle.http.specs.Head.{endsHead, endFrom, endOption, headOutcome, headOf};
+ghost use Rattle.http.specs.Head.{endsHead, endFrom, endOption, Passed, headOutcome, headOf};
 
 // Whether CR LF CR LF stands at i.
 fn ends_head(s: &[u8], i: usize) -> bool
@@ -26,11 +26,36 @@ enum End {
     Nowhere,
 }
 
-// The end of the first CR LF CR LF. Four bytes are passed at once where the fourth is above CR, and so neither CR nor LF.
+// Goes on from a place by four bytes as long as the fourth of them is above CR, and so neither CR nor LF: no CR LF CR LF begins among the
+// four. Sixteen bytes are passed in a turn, and fewer than sixteen left at the end are not looked at.
+fn skip(s: &[u8], from: usize) -> usize
+    requires { ⌜ from ≤ length (now s) ⌝ }
+    ensures { λ r. ⌜ Passed (now (s .entry)) from r ⌝ }
+{
+    let mut i = from;
+    while 15 < s.len() - i {
+        if s[i + 3] <= b'\r' {
+            return i;
+        }
+        if s[i + 7] <= b'\r' {
+            return i + 4;
+        }
+        if s[i + 11] <= b'\r' {
+            return i + 8;
+        }
+        if s[i + 15] <= b'\r' {
+            return i + 12;
+        }
+        i += 16;
+    }
+    i
+}
+
+// The end of the first CR LF CR LF. Where fewer than sixteen bytes are left, they are passed by four as in skip.
 fn first_end(s: &[u8]) -> End
     ensures { λ r. ⌜ endOption r ≡ endFrom 0 (now (s .entry)) ⌝ }
 {
-    let mut i: usize = 0;
+    let mut i = skip(s, 0);
     while 3 < s.len() - i {
         if b'\r' < s[i + 3] {
             i += 4;
@@ -39,7 +64,7 @@ fn first_end(s: &[u8]) -> End
         if ends_head(s, i) {
             return End::At(i + 4);
         }
-        i += 1;
+        i = skip(s, i + 1);
     }
     End::Nowhere
 }

@@ -1,23 +1,26 @@
 -- `http::head::first_end` meets its contract.
 -- Assumes nothing.
-use mathlib.Core.Path.{_≡_, refl, sym, _∙_}
-use Prim.Native.Nat.{_-_, _≤_}
-use lib.ListN.{length, drop}
-use Rattle.http.specs.Head.{endFrom}
-use Rattle.http.proofs.Heads.{end-none, end-here, end-later, four-later}
+use mathlib.Core.Path.{refl, sym, _∙_}
+use Prim.Native.Nat.{_-_}
+use lib.ListN.{length}
+use Rattle.http.specs.Head.{Passed}
+use Rattle.http.proofs.Heads.{end-none, end-here, one-on, four-on}
 use borrow.Author.Needs.{needs}
 use native.Mathlib.Omega.{arith}
 use Rattle.http.proofs.head.first_end.Statement.{statement}
 use Rattle.http.proofs.head.first_end.Tie as tie
 
 abbrev Inv-loop : tie.InvT-loop
-Inv-loop s i₀ i = (i ≤ length s) × (endFrom 0 s ≡ endFrom i (drop i s))
+Inv-loop s i₀ i = Passed s 0 i
 
 abbrev μ-loop : tie.MeasureT-loop
 μ-loop s i₀ i = length s - i
 
+skip-requires : tie.Need-skip-requires Inv-loop μ-loop
+skip-requires c κs = search needs
+
 loop-holds : tie.Need-loop-holds Inv-loop μ-loop
-loop-holds c = (search needs, refl)
+loop-holds c = c .skip .ensures
 
 sub-loop : tie.Need-sub-loop Inv-loop μ-loop
 sub-loop c = search needs
@@ -35,9 +38,7 @@ loop-less : tie.Need-loop-less Inv-loop μ-loop
 loop-less c = omega arith
 
 loop-again : tie.Need-loop-again Inv-loop μ-loop
-loop-again c =
-    let l = c .before .before .before in
-    (omega arith, l .loop .inv .1 ∙ four-later _ _ (omega arith) (c .if1 .taken))
+loop-again c = four-on _ _ _ _ refl refl (omega arith) (c .if1 .taken) 0 (c .before .before .before .loop .inv)
 
 ends-head-requires : tie.Need-ends-head-requires Inv-loop μ-loop
 ends-head-requires c κs = search needs
@@ -47,24 +48,24 @@ add-t9 c = search needs
 
 returns : tie.Need-returns Inv-loop μ-loop
 returns c =
-    let l = c .before .before .before .before .before in
-    sym (l .loop .inv .1 ∙ end-here _ _ (omega arith) (sym (c .before .ends-head .ensures) ∙ c .if2 .taken))
+    sym (c .before .before .before .before .before .loop .inv .same ∙ end-here _ _ (omega arith) (sym (c .before .ends-head .ensures) ∙ c .if2 .taken))
 
-add-i-2 : tie.Need-add-i-2 Inv-loop μ-loop
-add-i-2 c = search needs
+add-skip : tie.Need-add-skip Inv-loop μ-loop
+add-skip c = search needs
+
+skip-requires-2 : tie.Need-skip-requires-2 Inv-loop μ-loop
+skip-requires-2 c κs = search needs
 
 loop-less-2 : tie.Need-loop-less-2 Inv-loop μ-loop
 loop-less-2 c = omega arith
 
 loop-again-2 : tie.Need-loop-again-2 Inv-loop μ-loop
 loop-again-2 c =
-    let l = c .before .before .before .before .before in
-    (omega arith, l .loop .inv .1 ∙ end-later _ _ _ refl (omega arith) (sym (c .before .ends-head .ensures) ∙ c .if2 .left))
+    let e = c .before .before in
+    one-on _ _ _ _ (e .before .before .before .before .loop .inv) (omega arith) (sym (e .ends-head .ensures) ∙ c .before .if2 .left) (c .skip2 .ensures)
 
 returns-2 : tie.Need-returns-2 Inv-loop μ-loop
-returns-2 c =
-    let l = c .before in
-    sym (l .loop .inv .1 ∙ end-none _ _ (omega arith))
+returns-2 c = sym (c .before .loop .inv .same ∙ end-none _ _ (omega arith))
 
 pub first-end-spec : {M : Type 1} → statement M
 first-end-spec =
@@ -72,6 +73,7 @@ first-end-spec =
     (tie.spec
     Inv-loop
     μ-loop
+    skip-requires
     loop-holds
     sub-loop
     add-if1
@@ -82,7 +84,8 @@ first-end-spec =
     ends-head-requires
     add-t9
     returns
-    add-i-2
+    add-skip
+    skip-requires-2
     loop-less-2
     loop-again-2
     returns-2)
