@@ -6,4 +6,5 @@ pub mod Grouping
 pub mod Puts
 pub mod FixedVariables
 pub mod FieldVariables
+pub mod Repeats
 pub mod Blocks

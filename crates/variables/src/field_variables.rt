@@ -1,18 +1,20 @@
 // The variables of a request's fields, by the places of the fields in a lent list.
 ghost use mathlib.Core.Path.{_≡_};
+ghost use mathlib.Core.Bool.{not};
 ghost use mathlib.Core.List.{[], _∷_, _++_, map};
 ghost use Prim.Native.Nat.{_+_, _*_, _≤_, _<_};
 ghost use lib.ListN.{length, take, drop};
 ghost use Rattle.octets.specs.Text.{bytes};
 ghost use Rattle.octets.specs.Compare.{lowerOf};
-ghost use Rattle.octets.specs.Lists.{isIn};
+ghost use Rattle.octets.specs.Lists.{isIn, different};
 ghost use Rattle.scgi.specs.Block.{printed};
 ghost use Rattle.http.specs.Fields.{fieldAt, fieldsAt, Inside, AllInside};
 ghost use Rattle.variables.specs.Fields.{notPassed, addedBy, groupedOf};
 ghost use Rattle.variables.specs.Variables.{variableByte, httpName, httpVariable};
-ghost use Rattle.variables.specs.Put.{ifThere, PutDone};
+ghost use Rattle.variables.specs.Put.{variable, ifThere, PutDone};
 ghost use Rattle.variables.specs.FieldVariables.{lowName, namesBefore, lowFrom, addedAt, valueFrom, makes, variableFrom};
 use crate::put::Put;
+use crate::put::put_ended;
 use crate::put::put_piece;
 use octets::compare::same_letters;
 use octets::compare::upper;
@@ -69,6 +71,21 @@ fn seen_before(head: &[u8], places: &[u64], k: usize, n: usize) -> bool
         j -= 1;
         let earlier = field_name(head, places, j);
         if same_letters(name, earlier) {
+            return true;
+        }
+    }
+    false
+}
+
+// Whether two of n fields have the same name, letter case aside.
+fn names_repeat(head: &[u8], places: &[u64], n: usize) -> bool
+    requires { ⌜ (4 * n ≤ length (now places)) × AllInside (now head) (now places) n ⌝ }
+    ensures { λ r. ⌜ r ≡ not (different (namesBefore (now (head .entry)) (now (places .entry)) n)) ⌝ }
+{
+    let mut k = n;
+    while 0 < k {
+        k -= 1;
+        if seen_before(head, places, k, n) {
             return true;
         }
     }
@@ -192,14 +209,39 @@ fn put_field(head: &[u8], places: &[u64], k: usize, n: usize, out: &mut [u8], at
     put_values(head, places, k, n, out, m)
 }
 
-// Writes the variable of the field with number k, if it makes one.
-fn put_new(head: &[u8], places: &[u64], k: usize, n: usize, out: &mut [u8], at: usize) -> Put
-    requires { ⌜ (k < n) × (4 * n ≤ length (now places)) × AllInside (now head) (now places) n × (at ≤ length (now out)) ⌝ }
+// Writes the variable of the field with number k where no other field has its name.
+fn put_alone(head: &[u8], places: &[u64], k: usize, out: &mut [u8], at: usize) -> Put
+    requires { ⌜ (4 * k + 3 < length (now places)) × Inside (now head) (now places) k × (at ≤ length (now out)) ⌝ }
+    ensures { λ r. ⌜ PutDone (now (out .entry)) at (variable (httpName (lowName (now (head .entry)) (now (places .entry)) k)) (fieldAt (now (head .entry)) (now (places .entry)) k .value)) (now (out .exit)) r ⌝ }
+{
+    let name = field_name(head, places, k);
+    let p = put_http_name(out, at, name);
+    let Put::At(m) = p else {
+        return Put::Full;
+    };
+    let value = field_value(head, places, k);
+    put_ended(out, m, value)
+}
+
+// Writes the variable of the field with number k, if it makes one; repeat is whether two of the n names are the same.
+fn put_new(
+    head: &[u8],
+    places: &[u64],
+    k: usize,
+    n: usize,
+    repeat: bool,
+    out: &mut [u8],
+    at: usize,
+) -> Put
+    requires { ⌜ (k < n) × (4 * n ≤ length (now places)) × AllInside (now head) (now places) n × (repeat ≡ not (different (namesBefore (now head) (now places) n))) × (at ≤ length (now out)) ⌝ }
     ensures { λ r. ⌜ PutDone (now (out .entry)) at (ifThere (makes (now (head .entry)) (now (places .entry)) k) (variableFrom (now (head .entry)) (now (places .entry)) n k)) (now (out .exit)) r ⌝ }
 {
     let name = field_name(head, places, k);
     if not_passed(name) {
         return Put::At(at);
+    }
+    if !repeat {
+        return put_alone(head, places, k, out, at);
     }
     if seen_before(head, places, k, n) {
         return Put::At(at);
@@ -208,14 +250,16 @@ fn put_new(head: &[u8], places: &[u64], k: usize, n: usize, out: &mut [u8], at: 
 }
 
 // Writes one variable for each name of the passed fields, by first appearance.
+// Most requests have no name twice: that is tested once, and each field is then written with no further comparison.
 pub fn put_fields(head: &[u8], places: &[u64], n: usize, out: &mut [u8], at: usize) -> Put
     requires { ⌜ (4 * n ≤ length (now places)) × AllInside (now head) (now places) n × (n ≤ 64) × (at ≤ length (now out)) ⌝ }
     ensures { λ r. ⌜ PutDone (now (out .entry)) at (printed (map httpVariable (groupedOf (fieldsAt (now (head .entry)) (now (places .entry)) 0 n)))) (now (out .exit)) r ⌝ }
 {
+    let repeat = names_repeat(head, places, n);
     let mut p = at;
     let mut k: usize = 0;
     while k < n {
-        let r = put_new(head, places, k, n, out, p);
+        let r = put_new(head, places, k, n, repeat, out, p);
         let Put::At(m) = r else {
             return Put::Full;
         };

@@ -24,7 +24,7 @@ pub fn put_piece(out: &mut [u8], at: usize, src: &[u8]) -> Put
 }
 
 // Writes bytes and a NUL.
-fn put_ended(out: &mut [u8], at: usize, src: &[u8]) -> Put
+pub fn put_ended(out: &mut [u8], at: usize, src: &[u8]) -> Put
     requires { ⌜ at ≤ length (now out) ⌝ }
     ensures { λ r. ⌜ PutDone (now (out .entry)) at (now (src .entry) ++ 0 ∷ []) (now (out .exit)) r ⌝ }
 {

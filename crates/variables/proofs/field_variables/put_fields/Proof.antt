@@ -19,28 +19,32 @@ use mathlib.Core.Path.{_≡_, refl}
 use native.Mathlib.Omega.{arith}
 
 abbrev Inv-loop : tie.InvT-loop
-Inv-loop head places n out₀ at p₀ k₀ out p k =
+Inv-loop head places n out₀ at repeat p₀ k₀ out p k =
     (k ≤ n) × (p ≤ length out) × (length out ≡ length out₀)
     × Left out₀ at (printed (map httpVariable (groupedOf (fieldsAt head places 0 n)))) out p (variablesFrom head places n k)
 
 abbrev μ-loop : tie.MeasureT-loop
-μ-loop head places n out₀ at p₀ k₀ out p k = n - k
+μ-loop head places n out₀ at repeat p₀ k₀ out p k = n - k
 
 -- what the field with number k added, where the pattern matched
 wrote :
     (c : tie.After-known-told Inv-loop μ-loop)
     → (let l = c .before .before .before .before .before .before .before .before in
-    let a = c .before .before .before .before .before .before .before .before .before .before .before .before .args in
-    PutDone (l .loop .out) (l .loop .p) (ifThere (makes (a .head .now) (a .places .now) (l .loop .k)) (variableFrom (a .head .now) (a .places .now) (a .n) (l .loop .k))) (c .before .before .before .before .before .put-new .last .1 .1 .1 .1 .0) (At (c .before .r .given .0 .0)))
+    let a = c .before .before .before .before .before .before .before .before .before .before .before .before .before .args in
+    PutDone (l .loop .out) (l .loop .p) (ifThere (makes (a .head .now) (a .places .now) (l .loop .k)) (variableFrom (a .head .now) (a .places .now) (a .n) (l .loop .k))) (c .before .before .before .before .before .put-new .last .1 .1 .1 .1 .1 .0) (At (c .before .r .given .0 .0)))
 wrote c = rw (c .before .r .given .1) at (c .before .before .before .before .before .put-new .ensures)
 
+names-repeat-requires : tie.Need-names-repeat-requires Inv-loop μ-loop
+names-repeat-requires c κs = search needs
+
 loop-holds : tie.Need-loop-holds Inv-loop μ-loop
-loop-holds c = (search needs, c .before .before .before .pre .3, refl, left-all _ _ _ _ (variables-start _ _ _))
+loop-holds c = (search needs, c .before .before .before .before .pre .3, refl, left-all _ _ _ _ (variables-start _ _ _))
 
 put-new-requires : tie.Need-put-new-requires Inv-loop μ-loop
 put-new-requires c κs =
-    let s = c .before .before .before .before .before .before in
-    (c .before .loop-test .taken, s .pre .0, s .pre .1, c .before .before .loop .inv .1)
+    let l = c .before .before in
+    let s = l .before .before .before .before .before in
+    (c .before .loop-test .taken, s .pre .0, s .pre .1, l .before .names-repeat .ensures, l .loop .inv .1)
 
 enum-known-r : tie.Need-enum-known-r Inv-loop μ-loop
 enum-known-r c = search needs
@@ -79,6 +83,7 @@ put-fields-spec =
     (tie.spec
     Inv-loop
     μ-loop
+    names-repeat-requires
     loop-holds
     put-new-requires
     enum-known-r
