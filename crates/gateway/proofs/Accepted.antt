@@ -19,9 +19,9 @@ use Rattle.scgi.specs.Block.{Header, names}
 use Rattle.scgi.specs.Grammar.{first, Among, here, later, IsRequest}
 use Rattle.http.specs.Lines.{linesOf}
 use Rattle.http.specs.Fields.{Field}
-use Rattle.http.specs.Target.{targetOf, queryOf}
+use Rattle.targets.specs.Target.{targetOf, queryOf}
 use Rattle.http.proofs.Requests.{Reads, line-read, method-no-nul, served-no-nul}
-use Rattle.http.proofs.TargetsAccepted.{Accepted, accepted, target-no-nul, query-no-nul, path-no-nul}
+use Rattle.targets.proofs.TargetsAccepted.{Accepted, accepted, target-no-nul, query-no-nul, path-no-nul}
 use Rattle.http.proofs.FieldLines.{Clean, fields-clean}
 use Rattle.http.proofs.Places.{fields-few}
 use Rattle.lent.specs.Mounts.{Route, mountFor, routeOf}

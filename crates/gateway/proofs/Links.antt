@@ -14,7 +14,7 @@ use Rattle.scgi.specs.Block.{Header, printed}
 use Rattle.http.specs.Head.{headOf}
 use Rattle.http.specs.Lines.{linesOf}
 use Rattle.http.specs.RequestLine.{FirstLine, requestLineOf}
-use Rattle.http.specs.Target.{Target, targetOf}
+use Rattle.targets.specs.Target.{Target, targetOf}
 use Rattle.http.specs.Fields.{Field, fieldsOf}
 use Rattle.lent.specs.Settings.{Settings}
 use Rattle.lent.specs.Mounts.{Route, mountOf, mountFor, routeOf}

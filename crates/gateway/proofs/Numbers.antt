@@ -13,7 +13,8 @@ use Rattle.octets.proofs.Refusals.{Refuses, with-number, not-refused, number-of
 use Rattle.scgi.specs.Block.{printed}
 use Rattle.http.specs.Lines.{linesOf}
 use Rattle.http.specs.Fields.{Field}
-use Rattle.http.proofs.Numbers.{head-numbers, line-numbers, target-numbers, field-numbers}
+use Rattle.http.proofs.Numbers.{head-numbers, line-numbers, field-numbers}
+use Rattle.targets.proofs.Numbers.{target-numbers}
 use Rattle.lent.specs.Settings.{Settings}
 use Rattle.lent.specs.Mounts.{Route, mountOf, routeOf}
 use Rattle.lent.specs.Lent.{Lent, lentOf}

@@ -20,8 +20,8 @@ use Rattle.scgi.specs.Read.{readOf}
 use Rattle.http.specs.Head.{endFrom, headOf}
 use Rattle.http.specs.Lines.{linesFrom}
 use Rattle.http.specs.RequestLine.{isMethod, isVersion, versionOf, requestLineOf}
-use Rattle.http.specs.Escape.{escapesRight, hexValue, decodedFrom}
-use Rattle.http.specs.Target.{pathOf, queryOf, rawRight, noDots, segmentsRight, decodedRight, targetOf}
+use Rattle.targets.specs.Escape.{escapesRight, hexValue, decodedFrom}
+use Rattle.targets.specs.Target.{pathOf, queryOf, rawRight, noDots, segmentsRight, decodedRight, targetOf}
 use Rattle.http.specs.Fields.{fieldOf, eachField}
 use Rattle.lent.specs.Settings.{settingsOf}
 use Rattle.lent.specs.Mounts.{begins, mountOf}

@@ -5,7 +5,3 @@ pub mod FieldLines
 pub mod Places
 pub mod Numbers
 pub mod Worked
-pub mod Escapes
-pub mod Targets
-pub mod TargetsAccepted
-pub mod TargetsWorked

@@ -8,13 +8,10 @@ use lib.Dec.{leb}
 use lib.ListN.{length, take}
 use Rattle.octets.specs.Outcome.{given}
 use Rattle.octets.specs.Kinds.{oneOf}
-use Rattle.octets.specs.Scan.{count}
 use Rattle.octets.specs.Parts.{parted}
 use Rattle.octets.proofs.Refusals.{Refuses, with-number, not-refused, refuses-then, refuses-need, refuses-given}
 use Rattle.http.specs.Head.{endFrom, headOf}
 use Rattle.http.specs.RequestLine.{isMethod, isVersion, isServed, versionOf, threeParts, requestLineOf}
-use Rattle.http.specs.Escape.{decoded}
-use Rattle.http.specs.Target.{pathOf, rawRight, decodedRight, targetOf}
 use Rattle.http.specs.Fields.{fieldsIn, fieldsOf}
 
 module _ {ns : List ℕ} where
@@ -37,12 +34,6 @@ module _ {ns : List ℕ} where
           refuses-need (isMethod m) 12 twelve
           (refuses-then (refuses-need (isVersion v) 12 twelve (refuses-need (isServed v) 13 thirteen not-refused)) (λ w. not-refused))
       by m (t ∷ (v ∷ (x ∷ xs))) = with-number twelve
-
-  pub target-numbers : oneOf ns 14 ≡ true → (t : List ℕ) → Refuses ns (targetOf t)
-  unfolding targetOf
-  target-numbers fourteen t =
-      refuses-need (rawRight t) 14 fourteen
-      (refuses-need (decodedRight (count 47 (pathOf t)) (decoded (pathOf t))) 14 fourteen not-refused)
 
   pub field-numbers : oneOf ns 15 ≡ true → (rule : ℕ → Bool) (lines : List (List ℕ)) → Refuses ns (fieldsOf rule lines)
   field-numbers fifteen rule lines = refuses-given (fieldsIn 64 rule lines) 15 fifteen

@@ -2,5 +2,3 @@ pub mod Head
 pub mod Lines
 pub mod RequestLine
 pub mod Fields
-pub mod Escape
-pub mod Target

@@ -7,5 +7,3 @@ pub mod head; // where the head ends
 pub mod lines; // where a line ends
 pub mod request_line; // method, target and version of the first line
 pub mod fields; // field lines, and the places of the fields
-pub mod target; // a request's target: the rules it obeys, its path and query
-pub mod escape; // the escapes of a target: whether they are right, and what they stand for

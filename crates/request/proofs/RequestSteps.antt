@@ -17,14 +17,14 @@ use Rattle.octets.proofs.Lists.{part-take}
 use Rattle.octets.proofs.Outcomes.{Gave, then-gives}
 use Rattle.http.specs.Lines.{linesOf, lineRun}
 use Rattle.http.specs.RequestLine.{FirstLine, requestLineOf, versionText, isServed, lineOutcome, methodEnd, targetEnd}
-use Rattle.http.specs.Target.{Target, targetOf, TargetRead}
+use Rattle.targets.specs.Target.{Target, targetOf, TargetRead}
 use Rattle.http.specs.Fields.{Field, fieldsOf, fieldsAt, Stored}
 use Rattle.http.specs.declared.request_line.RequestLine.the-variants.{Line, Refused as LineMalformed}
-use Rattle.http.specs.declared.target.TargetPlace.the-variants.{Path, Refused as TargetRefused}
+use Rattle.targets.specs.declared.target.TargetPlace.the-variants.{Path, Refused as TargetRefused}
 use Rattle.http.specs.declared.fields.Fields.the-variants.{Count, Refused as FieldsRefused}
 use Rattle.http.proofs.LineCuts.{first-line}
 use Rattle.http.proofs.Requests.{line-read}
-use Rattle.http.proofs.TargetsAccepted.{read-accepted, path-within, decoded-within}
+use Rattle.targets.proofs.TargetsAccepted.{read-accepted, path-within, decoded-within}
 use Rattle.http.proofs.Places.{stored-count}
 use Rattle.request.specs.Named.{lowered}
 use Rattle.request.specs.Request.{Request, rulesOf, requestOf}

@@ -12,7 +12,7 @@ use Rattle.octets.specs.Compare.{sameBytes}
 use Rattle.octets.specs.Decimal.{numberOf}
 use Rattle.http.specs.Lines.{linesOf}
 use Rattle.http.specs.RequestLine.{FirstLine, requestLineOf}
-use Rattle.http.specs.Target.{targetOf}
+use Rattle.targets.specs.Target.{targetOf}
 use Rattle.http.specs.Fields.{Field, fieldsOf}
 use Rattle.request.specs.Named.{lowered, valuesOf}
 

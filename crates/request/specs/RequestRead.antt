@@ -10,7 +10,7 @@ use Rattle.octets.specs.Kinds.{isName}
 use Rattle.octets.specs.Decimal.{cap}
 use Rattle.http.specs.Lines.{linesOf, lineRun}
 use Rattle.http.specs.RequestLine.{FirstLine, requestLineOf, versionText}
-use Rattle.http.specs.Target.{pathOf, queryOf, targetOf}
+use Rattle.targets.specs.Target.{pathOf, queryOf, targetOf}
 use Rattle.http.specs.Fields.{Field, fieldsOf, fieldsAt, AllInside}
 use Rattle.request.specs.Named.{lowered, valuesOf, firstOf}
 use Rattle.request.specs.Request.{Request, rulesOf, requestOf}

@@ -13,8 +13,8 @@ use http::fields::field_lines;
 use http::lines::line_end;
 use http::request_line::RequestLine;
 use http::request_line::request_line;
-use http::target::TargetPlace;
-use http::target::target;
+use targets::target::TargetPlace;
+use targets::target::target;
 
 // Where the parts of a request line stand, and how long the path is.
 pub struct LinePlaces {

@@ -15,7 +15,7 @@ use Rattle.octets.specs.Kinds.{oneOf, within}
 use Rattle.octets.specs.Lists.{All, no-more, _&_}
 use Rattle.octets.proofs.Bools.{and-left, and-right, or-true}
 use Rattle.octets.proofs.Outcomes.{need-gives, then-gives}
-use Rattle.http.specs.Target.{targetOf}
+use Rattle.targets.specs.Target.{targetOf}
 use Rattle.response.specs.Head.{Value, Named, Head, headWith, linesAt, headOf}
 use Rattle.response.specs.Status.{statusOf, statedIn}
 use Rattle.response.specs.Location.{isLocal, accepted, isElsewhere, filled, locationRight}

@@ -15,9 +15,9 @@ use Rattle.octets.specs.Kinds.{isLetter, isScheme}
 use Rattle.octets.specs.Lists.{isNil}
 use Rattle.octets.specs.Scan.{run, other, allOf}
 use Rattle.octets.proofs.Scans.{all-take}
-use Rattle.http.specs.Target.{targetOf, targetOutcome, TargetRead}
-use Rattle.http.specs.declared.target.TargetPlace.{TargetPlace}
-use Rattle.http.specs.declared.target.TargetPlace.the-variants.{Path, Refused}
+use Rattle.targets.specs.Target.{targetOf, targetOutcome, TargetRead}
+use Rattle.targets.specs.declared.target.TargetPlace.{TargetPlace}
+use Rattle.targets.specs.declared.target.TargetPlace.the-variants.{Path, Refused}
 use Rattle.response.specs.Head.{Value}
 use Rattle.response.specs.Seen.{valueAt}
 use Rattle.response.specs.Location.{isVisible, isElsewhere, accepted, isLocation, locationRight, filled}

@@ -15,8 +15,8 @@ use Rattle.octets.specs.Trim.{kept}
 use Rattle.octets.specs.Compare.{sameBytes, lowerOf}
 use Rattle.octets.specs.Decimal.{numberFrom}
 use Rattle.octets.specs.Parts.{parted}
-use Rattle.http.specs.Escape.{escapesRight, hexValue, decodedFrom}
-use Rattle.http.specs.Target.{pathOf, queryOf, rawRight, noDots, segmentsRight, decodedRight, targetOf}
+use Rattle.targets.specs.Escape.{escapesRight, hexValue, decodedFrom}
+use Rattle.targets.specs.Target.{pathOf, queryOf, rawRight, noDots, segmentsRight, decodedRight, targetOf}
 use Rattle.http.specs.Fields.{fieldOf}
 use Rattle.response.specs.Head.{bareLength, linesFrom, fieldsOf, headOf}
 use Rattle.response.specs.Status.{threeAlone, statusOf}

@@ -10,7 +10,7 @@ use lib.ListN.{length, take, drop}
 use Rattle.octets.specs.Text.{bytes}
 use Rattle.octets.specs.Outcome.{refused, gives}
 use Rattle.octets.specs.Kinds.{oneOf, within}
-use Rattle.http.specs.Target.{targetOf}
+use Rattle.targets.specs.Target.{targetOf}
 use Rattle.response.specs.Head.{Value, Head, headOf}
 use Rattle.response.specs.Location.{accepted}
 use Rattle.response.specs.Table.{Answer, Script, serves, redirects, redirectsWithDocument, hasDocument, redirecting, tableOf}

@@ -10,7 +10,7 @@ use Rattle.octets.specs.Outcome.{Outcome, refused, gives}
 use Rattle.octets.specs.Kinds.{within, isLetter, isScheme}
 use Rattle.octets.specs.Scan.{run, other, allOf}
 use Rattle.octets.specs.Lists.{isNil}
-use Rattle.http.specs.Target.{Target, targetOf}
+use Rattle.targets.specs.Target.{Target, targetOf}
 use Rattle.response.specs.Head.{Value}
 
 -- "A Location that begins with `/` is local"; 47 is `/`

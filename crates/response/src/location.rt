@@ -5,16 +5,16 @@ ghost use Prim.Native.Nat.{_<_};
 ghost use lib.ListN.{length};
 ghost use Rattle.octets.specs.KindTable.{table};
 ghost use Rattle.octets.specs.Scan.{allOf};
-ghost use Rattle.http.specs.Target.{targetOf};
+ghost use Rattle.targets.specs.Target.{targetOf};
 ghost use Rattle.response.specs.Seen.{valueAt, MarkIn};
 ghost use Rattle.response.specs.Location.{isVisible, accepted, isElsewhere, isLocation, filled, locationRight};
 use crate::fields::Mark;
-use http::target::TargetPlace;
-use http::target::target;
 use octets::kinds::Kind;
 use octets::kinds::is_kind;
 use octets::scan::find;
 use octets::scan::run_end;
+use targets::target::TargetPlace;
+use targets::target::target;
 
 // Whether b is 33 to 126.
 fn is_visible(b: u8) -> bool

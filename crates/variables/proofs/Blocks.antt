@@ -9,7 +9,7 @@ use native.Mathlib.Omega.{arith}
 use lib.ListN.{length, take, drop, length-take, length-drop, drop-of-length-le}
 use lib.Seq.{length-take-le, take-add, take-take, drop-at, drop-drop}
 use Rattle.octets.specs.Decimal.{decimal}
-use Rattle.http.specs.Target.{queryOf}
+use Rattle.targets.specs.Target.{queryOf}
 use Rattle.http.specs.RequestLine.{versionText}
 use Rattle.http.specs.Fields.{fieldsAt}
 use Rattle.scgi.specs.Block.{printed}

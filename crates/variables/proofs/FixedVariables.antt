@@ -8,7 +8,7 @@ use mathlib.Core.Option.{Option, none, some}
 use lib.ListN.{length}
 use Rattle.octets.specs.Text.{bytes}
 use Rattle.octets.specs.Decimal.{decimal}
-use Rattle.http.specs.Target.{queryOf}
+use Rattle.targets.specs.Target.{queryOf}
 use Rattle.scgi.specs.Block.{Header, printed}
 use Rattle.lent.specs.Settings.{Auth, Settings}
 use Rattle.lent.specs.Mounts.{Route}

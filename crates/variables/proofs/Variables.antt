@@ -18,7 +18,7 @@ use Rattle.scgi.specs.Block.{Header}
 use Rattle.scgi.specs.Grammar.{Proper}
 use Rattle.scgi.specs.Lookup.{valueIn}
 use Rattle.http.specs.Fields.{Field}
-use Rattle.http.specs.Target.{queryOf}
+use Rattle.targets.specs.Target.{queryOf}
 use Rattle.lent.specs.Settings.{Auth, Settings}
 use Rattle.lent.specs.Mounts.{Route}
 use Rattle.lent.specs.Claims.{ProperAuth, neither, both, ProperSettings}

@@ -12,7 +12,7 @@ use Rattle.octets.specs.Compare.{upperOf}
 use Rattle.octets.specs.Decimal.{decimal}
 use Rattle.scgi.specs.Block.{Header}
 use Rattle.http.specs.Fields.{Field}
-use Rattle.http.specs.Target.{queryOf}
+use Rattle.targets.specs.Target.{queryOf}
 use Rattle.lent.specs.Settings.{Auth, Settings}
 use Rattle.lent.specs.Mounts.{Route}
 use Rattle.variables.specs.Meaning.{Meaning}

@@ -4,7 +4,7 @@ ghost use Prim.Native.Nat.{_+_, _≤_};
 ghost use lib.ListN.{length, take, drop};
 ghost use Rattle.octets.specs.Decimal.{decimal};
 ghost use Rattle.http.specs.RequestLine.{versionText};
-ghost use Rattle.http.specs.Target.{queryOf};
+ghost use Rattle.targets.specs.Target.{queryOf};
 ghost use Rattle.lent.specs.Places.{factAt, valueAt, isGiven, authTypeAt, remoteUserAt, AuthInside, FactInside, SettingsInside};
 ghost use Rattle.request.specs.RequestRead.{targetIn, pathIn, LineKnown};
 ghost use Rattle.variables.specs.Put.{PutDone};

@@ -9,10 +9,10 @@ use http::head::head_end;
 use http::lines::line_end;
 use http::request_line::RequestLine;
 use http::request_line::request_line;
-use http::target::TargetPlace;
-use http::target::target;
 use octets::kind_table::kinds;
 use octets::kinds::Kind;
+use targets::target::TargetPlace;
+use targets::target::target;
 
 fn show_head(s: &[u8]) {
     let h = head_end(s);

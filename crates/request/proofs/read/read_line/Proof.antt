@@ -6,7 +6,7 @@ use Rattle.request.proofs.read.read_line.Statement.{statement}
 use Rattle.request.proofs.read.read_line.Tie as tie
 use Rattle.http.proofs.LineCuts.{line-le}
 use Rattle.http.specs.RequestLine.{lineOutcome, methodEnd, targetEnd, requestLineOf}
-use Rattle.http.specs.Target.{TargetRead}
+use Rattle.targets.specs.Target.{TargetRead}
 use Rattle.http.specs.declared.request_line.RequestLine.the-variants.{Line}
 use Rattle.octets.proofs.Lists.{part}
 use borrow.Author.Needs.{needs}

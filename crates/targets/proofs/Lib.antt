@@ -1,0 +1,5 @@
+pub mod Escapes
+pub mod Targets
+pub mod TargetsAccepted
+pub mod Numbers
+pub mod Worked
