@@ -9,7 +9,7 @@ use native.Mathlib.Omega.{arith}
 use lib.Dec.{eqb}
 use lib.ListN.{length, take, drop, getD, length-drop, drop-of-length-le, List·getD-eq-default}
 use lib.Seq.{getD-drop, drop-drop}
-use borrow.Author.Tests.{eqb-true}
+use borrow.Author.Tests.{ne-eqb, eqb-true}
 use Rattle.octets.specs.Parts.{Parts, before, longer}
 use Rattle.octets.proofs.Bools.{and-right}
 use Rattle.octets.proofs.Lists.{next, there}
@@ -42,6 +42,18 @@ module _ (s : List ℕ) (i : ℕ) where
   pub line-none : length s ≤ i → lineRun (drop i s) ≡ 0
   unfolding lineRun
   line-none h = rw (drop-of-length-le s h)
+
+-- whether a line ends at i
+module _ (s : List ℕ) (i : ℕ) where
+  pub ends-all : length s ≤ i → eqb (lineRun (drop i s)) 0 ≡ true
+  ends-all h = rw (line-none s i h)
+
+  pub ends-here : i < length s → eqb (lineRun (drop i s)) 0 ≡ endsLine (drop i s)
+  ends-here h = by (endsLine (drop i s)) refl
+    where
+      by : (t : Bool) → endsLine (drop i s) ≡ t → eqb (lineRun (drop i s)) 0 ≡ t
+      by true e = rw (line-stop s i h e)
+      by false e = rw (line-more s i h e) (ne-eqb (suc (lineRun (drop (i + 1) s))) 0 (omega arith))
 
 pub line-le : (s : List ℕ) → lineRun s ≤ length s
 unfolding lineRun
@@ -149,12 +161,10 @@ module _ (s : List ℕ) (i j : ℕ) (line : j ≡ i + 2 + lineRun (drop (i + 2) 
   rest-at : drop (lineRun (drop (i + 2) s)) (drop (i + 2) s) ≡ drop j s
   rest-at = drop-drop (lineRun (drop (i + 2) s)) (i + 2) s ∙ ap (λ (k : ℕ). drop k s) (sym line)
 
-  pub next-line : endsLine (drop i s) ≡ true → linesOf (drop i s) .others ≡ take (j - (i + 2)) (drop (i + 2) s) ∷ linesOf (drop j s) .others
+  pub next-line : endsLine (drop i s) ≡ true → linesOf (drop i s) .others ≡ linesOf (drop (i + 2) s) .first ∷ linesOf (drop j s) .others
   next-line e =
-      let n : lineRun (drop (i + 2) s) ≡ j - (i + 2) = omega arith in
-      let f : linesOf (drop (i + 2) s) .first ≡ take (j - (i + 2)) (drop (i + 2) s) = first-line (drop (i + 2) s) ∙ ap (λ (k : ℕ). take k (drop (i + 2) s)) n in
       let o : linesOf (drop (i + 2) s) .others ≡ linesOf (drop j s) .others = other-lines (drop (i + 2) s) ∙ ap (λ (t : List ℕ). linesOf t .others) rest-at in
-      ap (λ (p : Parts). p .others) (after-end s i e) ∙ rw (f, o)
+      ap (λ (p : Parts). p .others) (after-end s i e) ∙ rw o
 
   pub next-ends : i + 2 ≤ length s → j < length s → endsLine (drop j s) ≡ true
   next-ends l h =

@@ -10,11 +10,10 @@ use native.Mathlib.Nat.{add-zero, zero-add, eq-or-lt-of-le}
 use native.Mathlib.Numerals.{add-one}
 use native.Mathlib.Omega.{arith}
 use lib.Dec.{leb, leb·zero, leb·suc-zero, leb·suc-suc}
-use lib.ListN.{length, take, drop, getD, set, length-set, length-take, length-drop}
+use lib.ListN.{length, take, drop, getD, set, length-set}
 use lib.Seq.{getD-set-same, getD-set-other, drop-set-lt, drop-drop, append-snoc}
 use borrow.Author.Tests.{leb-true}
 use Rattle.octets.proofs.Outcomes.{given-gives}
-use Rattle.octets.proofs.Lists.{part-take}
 use Rattle.octets.specs.Outcome.{gives}
 use Rattle.http.specs.Fields.{Field, fieldOf, ahead, eachField, fieldsIn, fieldsOf, fieldAt, fieldsAt, Inside, AllInside, Stored}
 use Rattle.http.specs.declared.fields.Fields.the-variants.{Count, Refused}
@@ -228,20 +227,6 @@ module _ {rule : ℕ → Bool} {lines rest : List (List ℕ)} {head d : List ℕ
           further =
               let e : 4 * n + 4 ≡ 4 * (n + 1) = omega arith in
               rw (sym e) (sym (drop-drop 4 (4 * n) out) ∙ ap (drop 4) (r .unused) ∙ drop-drop 4 (4 * n) d)
-
--- a field of the line of m bytes at x, whose name has n bytes, and whose value stands at v of the line and has k bytes
-module _ (head : List ℕ) (x m n v k : ℕ) (l : x ≤ length head) (a : n ≤ length (take m (drop x head))) (b : v + k ≤ length (take m (drop x head))) where
-  pub name-in : x + n ≤ length head
-  name-in = omega (arith, length-take m (drop x head), length-drop x head)
-
-  pub value-in : x + v + k ≤ length head
-  value-in = omega (arith, length-take m (drop x head), length-drop x head)
-
-  pub in-head :
-      _≡_ {A = Option Field} (some (record { name = take n (take m (drop x head)); value = take k (drop v (take m (drop x head))) }))
-      (some (record { name = take n (drop x head); value = take k (drop (x + v) head) }))
-  in-head =
-      rw (part-take (drop x head) m 0 n (omega arith), part-take (drop x head) m v k b, drop-drop v x head)
 
 -- FOR CALLERS: no more than 64 fields are stored
 each-length : (rule : ℕ → Bool) (ls : List (List ℕ)) (fs : List Field) → eachField rule ls ≡ some fs → length fs ≡ length ls

@@ -11,8 +11,11 @@ use Rattle.octets.specs.Outcome.{Outcome, refused, gives, given}
 use Rattle.octets.specs.Kinds.{isValue}
 use Rattle.octets.specs.Scan.{run, allOf, other}
 use Rattle.octets.specs.Trim.{trimmed}
+use Rattle.http.specs.Lines.{linesOf, lineRun}
 use Rattle.http.specs.declared.fields.FieldLine.{FieldLine}
 use Rattle.http.specs.declared.fields.FieldLine.the-variants.{Field as LineField, Malformed}
+use Rattle.http.specs.declared.fields.FieldPlace.{FieldPlace}
+use Rattle.http.specs.declared.fields.FieldPlace.the-variants.{At, Malformed as NoPlace}
 use Rattle.http.specs.declared.fields.Fields.{Fields}
 use Rattle.http.specs.declared.fields.Fields.the-variants.{Count, Refused}
 
@@ -70,6 +73,19 @@ nameEnd Malformed = 0
 abbrev pub valueEnd : FieldLine → ℕ
 valueEnd (LineField n v k) = v + k
 valueEnd Malformed = 0
+
+-- the line of head that begins at start: its field stands in head, where its name has n bytes and its value begins at v and has k bytes, and the
+-- line ends at e
+pub record FieldStands (rule : ℕ → Bool) (head : List ℕ) (start n v k e : ℕ) : Type 0 where
+  pub field : fieldOf rule (linesOf (drop start head) .first) ≡ some (record { name = take n (drop start head); value = take k (drop v head) })
+  pub name-in : start + n ≤ length head
+  pub value-in : v + k ≤ length head
+  pub ends : e ≡ start + lineRun (drop start head)
+
+-- what the code's answer for that line says
+abbrev pub FieldPlaced : (ℕ → Bool) → List ℕ → ℕ → FieldPlace → Type 0
+FieldPlaced rule head start (At n v k e) = FieldStands rule head start n v k e
+FieldPlaced rule head start NoPlace = fieldOf rule (linesOf (drop start head) .first) ≡ none
 
 -- the field with number k, whose four numbers stand from 4 * k on in a list: start and length of its name, start and length of its value
 abbrev pub fieldAt : List ℕ → List ℕ → ℕ → Field

@@ -5,8 +5,8 @@ ghost use lib.ListN.{length, set};
 ghost use Rattle.octets.specs.Kinds.{isName, rule};
 ghost use Rattle.octets.specs.KindTable.{table};
 ghost use Rattle.http.specs.Lines.{linesOf, lineRun};
-ghost use Rattle.http.specs.Fields.{fieldIn, nameEnd, valueEnd, fieldOf, Stored};
-use crate::lines::line_end;
+ghost use Rattle.http.specs.Fields.{fieldIn, nameEnd, valueEnd, fieldOf, FieldPlaced, Stored};
+use crate::lines::is_line_end;
 use octets::kinds::Kind;
 use octets::scan::find;
 use octets::scan::run_end;
@@ -49,6 +49,46 @@ pub fn field_line(kinds: &[u8; 256], kind: Kind, line: &[u8]) -> FieldLine
     }
 }
 
+enum FieldPlace {
+    // How long the name is, where the value stands and how long it is, and where the line ends.
+    At {
+        name_len: usize,
+        value: usize,
+        value_len: usize,
+        next: usize,
+    },
+    Malformed,
+}
+
+// The field of the line that begins at start, in one pass: neither a colon nor a CR is a byte of a name, nor a CR one of a value, so that the
+// runs of such bytes end where the name and the line do.
+fn field_at(kinds: &[u8; 256], head: &[u8], start: usize) -> FieldPlace
+    requires { ⌜ (now kinds ≡ table) × (start ≤ length (now head)) ⌝ }
+    ensures { λ r. ⌜ FieldPlaced isName (now (head .entry)) start r ⌝ }
+{
+    let colon = run_end(kinds, Kind::Name, head, start);
+    if head.len() <= colon {
+        return FieldPlace::Malformed;
+    }
+    if head[colon] != b':' {
+        return FieldPlace::Malformed;
+    }
+    if colon == start {
+        return FieldPlace::Malformed;
+    }
+    let end = run_end(kinds, Kind::Value, head, colon + 1);
+    if !is_line_end(head, end) {
+        return FieldPlace::Malformed;
+    }
+    let value = blank_end(head, colon + 1);
+    FieldPlace::At {
+        name_len: colon - start,
+        value,
+        value_len: kept_len(&head[value..end], 0),
+        next: end,
+    }
+}
+
 // Four numbers, from at on.
 fn put_four(out: &mut [u64], at: usize, a: usize, b: usize, c: usize, d: usize)
     requires { ⌜ at + 4 ≤ length (now out) ⌝ }
@@ -78,17 +118,17 @@ pub fn field_lines(kinds: &[u8; 256], head: &[u8], from: usize, places: &mut [u6
             return Fields::Refused(15);
         }
         let start = end + 2;
-        let next = line_end(head, start);
-        let l = field_line(kinds, Kind::Name, &head[start..next]);
-        let FieldLine::Field {
+        let l = field_at(kinds, head, start);
+        let FieldPlace::At {
             name_len,
             value,
             value_len,
+            next,
         } = l
         else {
             return Fields::Refused(15);
         };
-        put_four(places, 4 * n, start, name_len, start + value, value_len);
+        put_four(places, 4 * n, start, name_len, value, value_len);
         n += 1;
         end = next;
     }

@@ -1,6 +1,7 @@
 // Where a line ends.
 ghost use mathlib.Core.Path.{_≡_};
 ghost use Prim.Native.Nat.{_+_, _≤_, _<_};
+ghost use lib.Dec.{eqb};
 ghost use lib.ListN.{length, drop};
 ghost use Rattle.http.specs.Lines.{endsLine, lineRun};
 
@@ -16,6 +17,16 @@ fn ends_line(s: &[u8], i: usize) -> bool
         return false;
     }
     s[i + 1] == b'\n'
+}
+
+// Whether a line ends at i, by CR LF or with s.
+pub(crate) fn is_line_end(s: &[u8], i: usize) -> bool
+    ensures { λ r. ⌜ r ≡ eqb (lineRun (drop i (now (s .entry)))) 0 ⌝ }
+{
+    if s.len() <= i {
+        return true;
+    }
+    ends_line(s, i)
 }
 
 // The first CR LF of s at or after from, or the length of s.
