@@ -19,12 +19,12 @@ use Rattle.octets.proofs.Bools.{or-false}
 use Rattle.octets.proofs.Compares.{same-true, same-false}
 use Rattle.octets.proofs.Names.{test-different}
 use Rattle.octets.proofs.Outcomes.{Gave, then-gives}
-use Rattle.scgi.specs.Block.{Header, names, parsed, wellFormed, headerIn, HeaderFound}
+use Rattle.scgi.specs.Block.{Header, names, parsed, wellFormed, countOf, HeaderFound}
 use Rattle.scgi.specs.Grammar.{scgi1}
 use Rattle.scgi.specs.Lookup.{Part, partOption, valueIn, lookupOf}
-use Rattle.scgi.specs.Check.{statedBy, statedIn, has, hasScgi, checkBlock}
+use Rattle.scgi.specs.Check.{statedBy, statedIn, has, hasScgi, restOf, checkBlock}
 use Rattle.scgi.specs.declared.block.HeaderPlace.the-variants.{At}
-use Rattle.scgi.proofs.Walks.{behind-header, none-behind}
+use Rattle.scgi.proofs.Walks.{behind-header, none-behind, Counted, counted}
 use Rattle.scgi.proofs.Lookups.{well, well-parsed, value-found}
 
 -- The stated length.
@@ -106,62 +106,75 @@ module _ (b : List ℕ) (d : then (parsed b) (λ hs. gives (different (names hs)
       rw (p .is)
       (ap gives (has-value scgi1 (p .hs) (p .names-differ) ∙ ap (λ (w : Option (List ℕ)). isValue w (bytes "1")) (sym (value-found b (bytes "SCGI") (p .hs) o (p .is) e))))
 
--- The whole chain, step by step: hs are the block's headers.
+-- The whole chain, step by step, where the block has n headers.
 
-module _ (b : List ℕ) (hs : List Header) (p : parsed b ≡ gives hs) where
-  pub too-many : 128 < length hs → checkBlock b ≡ refused 6
+module _ (b : List ℕ) (n : ℕ) (c : countOf b ≡ gives n) where
+  abbrev headers : Counted b n
+  headers = counted b n c
+
+  pub too-many : 128 < n → checkBlock b ≡ refused 6
   unfolding checkBlock
-  too-many h = rw (p, lt-leb (length hs) 128 h)
+  too-many h = rw (headers .is, lt-leb (length (headers .hs)) 128 (omega (arith, headers .count)))
 
-  module _ (few : length hs ≤ 128) where
-    pub equal-names : then (parsed b) (λ hs. gives (different (names hs))) ≡ gives false → checkBlock b ≡ refused 7
+  module _ (few : n ≤ 128) where
+    -- the chain from the names on
+    by-names : (t : Bool) → then (parsed b) (λ hs. gives (different (names hs))) ≡ gives t → checkBlock b ≡ need t 7 (restOf b)
     unfolding checkBlock
-    equal-names e =
-        let q : gives (different (names hs)) ≡ gives false = rw p at e in
-        let z : different (names hs) ≡ false = cc in
-        rw (p, le-leb (length hs) 128 few, z)
+    by-names t e =
+        let q : gives (different (names (headers .hs))) ≡ gives t = rw (headers .is) at e in
+        let z : different (names (headers .hs)) ≡ t = cc in
+        rw (headers .is, le-leb (length (headers .hs)) 128 (omega (arith, headers .count)), z)
 
-    module _ (d : then (parsed b) (λ hs. gives (different (names hs))) ≡ gives true) where
-      -- what is left of the chain
-      left : checkBlock b ≡ then (statedBy hs) (λ n. need (leb n 1048576) 9 (need (has scgi1 hs) 10 (gives n)))
-      unfolding checkBlock
-      left =
-          let q : gives (different (names hs)) ≡ gives true = rw p at d in
-          let z : different (names hs) ≡ true = cc in
-          rw (p, le-leb (length hs) 128 few, z)
+    pub equal-names : then (parsed b) (λ hs. gives (different (names hs))) ≡ gives false → checkBlock b ≡ refused 7
+    equal-names = by-names false
 
-      pub unstated : (k : ℕ) → statedIn b ≡ refused k → checkBlock b ≡ refused k
-      unstated k e = left ∙ by (statedBy hs) (rw p at e)
-        where
-          by : (o : Outcome ℕ) → then o (λ n. gives (min n cap)) ≡ refused k → then o (λ n. need (leb n 1048576) 9 (need (has scgi1 hs) 10 (gives n))) ≡ refused k
-          by (refused n) q = cc
-          by (gives n) q = cc
+    pub other-names : then (parsed b) (λ hs. gives (different (names hs))) ≡ gives true → checkBlock b ≡ restOf b
+    other-names = by-names true
 
-      module _ (len : ℕ) (e : statedIn b ≡ gives len) where
-        -- the number that is stated
-        stated : Gave (statedBy hs) (λ n. gives (min n cap)) len
-        stated = then-gives (statedBy hs) (λ n. gives (min n cap)) len (rw p at e)
+-- What is asked after the names.
 
-        is-min : min (stated .it) cap ≡ len
-        is-min =
-            let q : gives (min (stated .it) cap) ≡ gives len = stated .next in
-            cc
+module _ (b : List ℕ) (d : then (parsed b) (λ hs. gives (different (names hs))) ≡ gives true) where
+  abbrev hs : List Header
+  hs = differ b d .hs
 
-        pub too-long : 1048576 < len → checkBlock b ≡ refused 9
-        too-long h = left ∙ rw (stated .first, lt-leb (stated .it) 1048576 (omega (arith, is-min)))
+  p : parsed b ≡ gives hs
+  p = differ b d .is
 
-        module _ (small : len ≤ 1048576) where
-          is-it : stated .it ≡ len
-          is-it = omega (arith, is-min)
+  left : restOf b ≡ then (statedBy hs) (λ n. need (leb n 1048576) 9 (need (has scgi1 hs) 10 (gives n)))
+  left = rw p
 
-          pub no-scgi : hasScgi b ≡ gives false → checkBlock b ≡ refused 10
-          no-scgi h =
-              let q : gives (has scgi1 hs) ≡ gives false = rw p at h in
-              let z : has scgi1 hs ≡ false = cc in
-              left ∙ rw (stated .first, is-it, le-leb len 1048576 small, z)
+  pub unstated : (k : ℕ) → statedIn b ≡ refused k → restOf b ≡ refused k
+  unstated k e = left ∙ by (statedBy hs) (rw p at e)
+    where
+      by : (o : Outcome ℕ) → then o (λ n. gives (min n cap)) ≡ refused k → then o (λ n. need (leb n 1048576) 9 (need (has scgi1 hs) 10 (gives n))) ≡ refused k
+      by (refused n) q = cc
+      by (gives n) q = cc
 
-          pub passes : hasScgi b ≡ gives true → checkBlock b ≡ gives len
-          passes h =
-              let q : gives (has scgi1 hs) ≡ gives true = rw p at h in
-              let z : has scgi1 hs ≡ true = cc in
-              left ∙ rw (stated .first, is-it, le-leb len 1048576 small, z)
+  module _ (len : ℕ) (e : statedIn b ≡ gives len) where
+    -- the number that is stated
+    stated : Gave (statedBy hs) (λ n. gives (min n cap)) len
+    stated = then-gives (statedBy hs) (λ n. gives (min n cap)) len (rw p at e)
+
+    is-min : min (stated .it) cap ≡ len
+    is-min =
+        let q : gives (min (stated .it) cap) ≡ gives len = stated .next in
+        cc
+
+    pub too-long : 1048576 < len → restOf b ≡ refused 9
+    too-long h = left ∙ rw (stated .first, lt-leb (stated .it) 1048576 (omega (arith, is-min)))
+
+    module _ (small : len ≤ 1048576) where
+      is-it : stated .it ≡ len
+      is-it = omega (arith, is-min)
+
+      pub no-scgi : hasScgi b ≡ gives false → restOf b ≡ refused 10
+      no-scgi h =
+          let q : gives (has scgi1 hs) ≡ gives false = rw p at h in
+          let z : has scgi1 hs ≡ false = cc in
+          left ∙ rw (stated .first, is-it, le-leb len 1048576 small, z)
+
+      pub passes : hasScgi b ≡ gives true → restOf b ≡ gives len
+      passes h =
+          let q : gives (has scgi1 hs) ≡ gives true = rw p at h in
+          let z : has scgi1 hs ≡ true = cc in
+          left ∙ rw (stated .first, is-it, le-leb len 1048576 small, z)

@@ -1,89 +1,109 @@
 -- Laws of names found by stored numbers.
 -- Assumes nothing.
-use Prim.Native.Nat.{ℕ, zero, suc, _+_, _-_, _*_, _≤_, _<_}
+use Prim.Native.Nat.{ℕ, suc, _+_, _-_, _*_, _≤_, _<_}
+use Prim.{absurd}
 use mathlib.Core.Path.{_≡_, refl, sym, ap, _∙_}
 use mathlib.Core.Bool.{Bool, true, false, not, _&&_, _||_}
 use mathlib.Core.List.{List, [], _∷_, _++_}
-use native.Mathlib.Nat.{add-zero, sub-zero}
+use native.Mathlib.Nat.{zero-add, add-zero, sub-zero}
 use native.Mathlib.Omega.{arith}
 use lib.Dec.{eqb}
 use lib.ListN.{length, take, drop, getD, set, length-append, length-drop, length-set, length-take}
 use lib.Seq.{drop-drop, take-append-seam, getD-drop}
 use borrow.Author.Tests.{eqb-true, eqb-false}
-use Rattle.octets.specs.Outcome.{gives, then}
+use Rattle.octets.specs.Outcome.{Outcome, refused, gives, then}
 use Rattle.octets.specs.Compare.{sameBytes}
 use Rattle.octets.specs.Lists.{isIn, different}
 use Rattle.octets.specs.Copy.{over}
-use Rattle.octets.proofs.Outcomes.{given-gives}
+use Rattle.octets.proofs.Outcomes.{given-gives, gives-once, then-gives, then-same}
 use Rattle.octets.proofs.Copies.{over-nil, two-stored}
 use Rattle.scgi.specs.Block.{Header, names, printed, headersOf, parsed, countOf, headerIn, HeaderFound}
-use Rattle.scgi.specs.Names.{namePlaces, NamesStored, nameAt, namesAt, Inside, AllInside}
-use Rattle.scgi.specs.declared.block.HeaderPlace.the-variants.{At}
+use Rattle.scgi.specs.Names.{namePlaces, NamesStored, NamesKept, FoundBy, NamesFound, nameAt, namesAt, Inside, AllInside}
+use Rattle.scgi.specs.declared.block.HeaderPlace.the-variants.{At, Refused}
+use Rattle.scgi.specs.declared.names.Stored.{Stored}
+use Rattle.scgi.specs.declared.names.Stored.the-variants.{Headers, Full, Refused as StoredRefused}
 use Rattle.scgi.proofs.Blocks.{printed-read, behind-printed}
-use Rattle.scgi.proofs.Walks.{behind-header, none-behind, counted}
+use Rattle.scgi.proofs.Walks.{no-header, past-header, counted}
 
--- Storing: a writer that has stored the numbers of the headers before i, k numbers in all.
+-- Storing: a writer that has stored the numbers of the n headers before i.
 
 places-length : (hs : List Header) (i : ℕ) → length (namePlaces i hs) ≡ 2 * length hs
 unfolding namePlaces
 places-length [] i = refl
 places-length (h ∷ hs) i = omega (arith, places-length hs (i + length (h .name) + 1 + length (h .value) + 1))
 
-pub record Storing (b before out : List ℕ) (i k : ℕ) : Type 0 where
-  pub hs : List Header
-  pub rest : parsed (drop i b) ≡ gives hs
-  pub room : k + 2 * length hs ≤ length out
-  pub stored : (all : List Header) → parsed b ≡ gives all → over out k (namePlaces i hs) ≡ over before 0 (namePlaces 0 all)
+pub record Storing (b before out : List ℕ) (i n : ℕ) : Type 0 where
+  pub fits : 2 * n ≤ length out
+  pub count : countOf b ≡ then (parsed (drop i b)) (λ hs. gives (n + length hs))
+  pub stored :
+      (all hs : List Header) → parsed b ≡ gives all → parsed (drop i b) ≡ gives hs → 2 * n + 2 * length hs ≤ length out
+      → over out (2 * n) (namePlaces i hs) ≡ over before 0 (namePlaces 0 all)
 
-pub start : (b d : List ℕ) (n : ℕ) → countOf b ≡ gives n → 2 * n ≤ length d → Storing b d d 0 0
-start b d n e h =
-    let g = counted b n e in
+pub start : (b d : List ℕ) → Storing b d d 0 0
+start b d =
     record {
-      hs = g .hs;
-      rest = g .is;
-      room = omega (arith, g .count);
-      stored = λ all p. let w : gives (g .hs) ≡ gives all = sym (g .is) ∙ p in ap (λ (hs : List Header). over d 0 (namePlaces 0 hs)) (cc);
+      fits = omega arith;
+      count = then-same (parsed b) _ _ (λ hs. ap gives (sym (zero-add (length hs))));
+      stored = λ all hs p q r. ap (λ (x : List Header). over d 0 (namePlaces 0 x)) (gives-once hs all (sym q ∙ p));
     }
 
 -- one header more
-module _ (b before out : List ℕ) (i k n v : ℕ) where
+module _ (b out : List ℕ) (i k n v : ℕ) where
   turn-at :
-      (gs : List Header) → (i < n) × (n < v) × (v < length b) → parsed (drop (v + 1) b) ≡ gives gs
-      → k + 2 * suc (length gs) ≤ length out
-      → ((all : List Header) → parsed b ≡ gives all → over out k (namePlaces i (headerIn b i n v ∷ gs)) ≡ over before 0 (namePlaces 0 all))
-      → Storing b before (set (set out k i) (k + 1) (n - i)) (v + 1) (k + 2)
+      (gs : List Header) → (i < n) × (n < v) × (v < length b) → k + 2 + 2 * length gs ≤ length out
+      → over (set (set out k i) (k + 1) (n - i)) (k + 2) (namePlaces (v + 1) gs) ≡ over out k (namePlaces i (headerIn b i n v ∷ gs))
   unfolding namePlaces
-  turn-at gs o r room w =
+  turn-at gs o room =
       let l : length (take (n - i) (drop i b)) ≡ n - i = simp (length-take, length-drop) (omega arith) in
       let m : length (take (v - (n + 1)) (drop (n + 1) b)) ≡ v - (n + 1) = simp (length-take, length-drop) (omega arith) in
       let e : i + (n - i) + 1 + (v - (n + 1)) + 1 ≡ v + 1 = omega arith in
+      two-stored out k i (n - i) (namePlaces (v + 1) gs) (omega (arith, places-length gs (v + 1))) ∙ sym (rw (l, m, e))
+
+-- a header is left where bytes are
+some-left : (b : List ℕ) (i : ℕ) (hs : List Header) → parsed (drop i b) ≡ gives hs → i < length b → 0 < length hs
+unfolding printed
+some-left b i [] e h =
+    let p : [] ≡ drop i b = printed-read (drop i b) [] (given-gives (headersOf (drop i b)) 5 [] e) .bytes in
+    let l : 0 ≡ length b - i = ap length p ∙ length-drop i b in
+    absurd (omega arith)
+some-left b i (h ∷ hs) e l = omega arith
+
+module _ {b before out : List ℕ} {i n : ℕ} (s : Storing b before out i n) where
+  pub more :
+      (e v : ℕ) → HeaderFound b i (At e v) → 2 * n + 2 ≤ length out
+      → Storing b before (set (set out (2 * n) i) (2 * n + 1) (e - i)) (v + 1) (n + 1)
+  more e v h room =
+      let z : 2 * (n + 1) ≡ 2 * n + 2 = omega arith in
       record {
-        hs = gs;
-        rest = r;
-        room = simp length-set (omega arith);
-        stored = λ all p. two-stored out k i (n - i) (namePlaces (v + 1) gs) (omega (arith, places-length gs (v + 1))) ∙ rw (l, m, e) at (w all p);
+        fits = simp length-set (omega arith);
+        count = s .count ∙ past-header b i e v _ h ∙ then-same (parsed (drop (v + 1) b)) _ _ (λ hs. ap gives (omega arith));
+        stored =
+            λ all gs p q r.
+            let l : 2 * (n + 1) + 2 * length gs ≤ length out = simp length-set at r in
+            let w : parsed (drop i b) ≡ gives (headerIn b i e v ∷ gs) =
+            sym (h .answer) ∙ ap (λ (o : Outcome (List Header)). then o (λ hs. gives (headerIn b i e v ∷ hs))) q in
+            ap (λ (x : ℕ). over (set (set out (2 * n) i) (2 * n + 1) (e - i)) x (namePlaces (v + 1) gs)) z
+            ∙ turn-at b out i (2 * n) e v gs (h .order) (omega arith)
+            ∙ s .stored all (headerIn b i e v ∷ gs) p w (omega arith);
       }
 
-module _ {b before out : List ℕ} {i k : ℕ} (s : Storing b before out i k) where
-  pub more : (n v : ℕ) → HeaderFound b i (At n v) → Storing b before (set (set out k i) (k + 1) (n - i)) (v + 1) (k + 2)
-  more n v h =
-      let g = behind-header b i (s .hs) (s .rest) n v h in
-      let l : length (s .hs) ≡ suc (length (g .gs)) = ap length (g .is) in
-      turn-at b before out i k n v (g .gs) (h .order) (g .rest) (omega (arith, s .room))
-      (λ all p. ap (λ (hs : List Header). over out k (namePlaces i hs)) (sym (g .is)) ∙ s .stored all p)
+  pub unheaded : (k : ℕ) → HeaderFound b i (Refused k) → countOf b ≡ refused k
+  unheaded k h = s .count ∙ ap (λ (o : Outcome (List Header)). then o (λ hs. gives (n + length hs))) (sym (h .answer))
 
-  -- there is room for a header's numbers
-  pub room-left : (n v : ℕ) → HeaderFound b i (At n v) → k + 2 ≤ length out
-  room-left n v h =
-      let g = behind-header b i (s .hs) (s .rest) n v h in
-      omega (arith, s .room, ap length (g .is))
+  -- a header more than there is room for, where the block is well formed
+  pub no-room : i < length b → length out < 2 * n + 2 → (m : ℕ) → countOf b ≡ gives m → length out < 2 * m
+  no-room h l m e =
+      let g = then-gives (parsed (drop i b)) (λ hs. gives (n + length hs)) m (sym (s .count) ∙ e) in
+      let z : n + length (g .it) ≡ m = gives-once (n + length (g .it)) m (g .next) in
+      omega (arith, some-left b i (g .it) (g .first) h)
 
-  pub all-stored : length b ≤ i → NamesStored b before out
-  unfolding namePlaces
-  all-stored h all p =
-      sym (over-nil out k)
-      ∙ ap (λ (hs : List Header). over out k (namePlaces i hs)) (sym (none-behind b i (s .hs) (s .rest) h))
-      ∙ s .stored all p
+  module _ (h : length b ≤ i) where
+    pub all-counted : countOf b ≡ gives n
+    all-counted = s .count ∙ rw (no-header b i h) (ap gives (add-zero n))
+
+    pub all-stored : NamesStored b before out
+    unfolding namePlaces
+    all-stored all p = sym (over-nil out (2 * n)) ∙ s .stored all [] p (no-header b i h) (omega (arith, s .fits))
 
 -- Reading back.
 
@@ -183,19 +203,36 @@ pub differ-end : (b ps : List ℕ) (k n : ℕ) → n ≤ k → different (namesA
 unfolding different
 differ-end b ps k n h = ap different (names-end b ps k n h)
 
-pub differ-start : (b ps : List ℕ) (n : ℕ) → different (namesAt b ps 0 n) ≡ different (namesAt b ps 0 (n - 0))
-differ-start b ps n = ap (λ (m : ℕ). different (namesAt b ps 0 m)) (sym (sub-zero n))
-
 -- what is known of n names whose numbers were stored
-pub record Stored (b ps : List ℕ) (n : ℕ) : Type 0 where
+pub record Known (b ps : List ℕ) (n : ℕ) : Type 0 where
   pub inside : AllInside b ps n
-  pub answer : then (parsed b) (λ hs. gives (different (names hs))) ≡ gives (different (namesAt b ps 0 n))
+  pub answer : then (parsed b) (λ hs. gives (different (names hs))) ≡ gives (different (namesAt b ps 0 (n - 0)))
 
-pub stored-names : (b d ps : List ℕ) (n : ℕ) → countOf b ≡ gives n → NamesStored b d ps → Stored b ps n
-stored-names b d ps n e w =
-    let g = counted b n e in
-    let f = found b d ps (g .hs) (g .is) (w (g .hs) (g .is)) in
+pub known : (b ps : List ℕ) (n : ℕ) → NamesKept b ps n → Known b ps n
+known b ps n w =
+    let g = counted b n (w .count) in
+    let f = found b (w .before) ps (g .hs) (g .is) (w .stored (g .hs) (g .is)) in
     record {
       inside = λ k h. f .inside k (omega arith) (omega (arith, g .count));
-      answer = rw (g .is) (ap (λ (ns : List (List ℕ)). gives (different ns)) (sym (f .are) ∙ ap (namesAt b ps 0) (g .count)));
+      answer =
+          rw (g .is) (ap (λ (ns : List (List ℕ)). gives (different ns)) (sym (f .are) ∙ ap (namesAt b ps 0) (g .count ∙ sym (sub-zero n))));
     }
+
+-- What was stored, by the code's answer.
+
+module _ (b before ps : List ℕ) (n : ℕ) (l : length ps ≡ length before) (r : Stored) (f : NamesFound b before ps r) where
+  pub kept : r ≡ Headers n → NamesKept b ps n
+  kept e =
+      let w : NamesFound b before ps (Headers n) = rw e at f in
+      record { count = w .answer .0; room = omega (arith, w .answer .1); before = before; stored = w .answer .2 }
+
+  -- where there is room for the block's n headers
+  pub kept-all : countOf b ≡ gives n → 2 * n ≤ length before → NamesKept b ps n
+  kept-all e room = by r refl (f .answer)
+    where
+      by : (q : Stored) → r ≡ q → FoundBy b before ps q → NamesKept b ps n
+      by (Headers m) z w = kept (z ∙ ap Headers (gives-once m n (sym (w .0) ∙ e)))
+      by Full z w = absurd (omega (arith, w n e))
+      by (StoredRefused k) z w =
+          let q : refused k ≡ gives n = sym w ∙ e in
+          absurd (let z : _≡_ {A = ℕ} 0 1 = cc in omega arith)

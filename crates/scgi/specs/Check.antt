@@ -51,6 +51,10 @@ statedOutcome (StatedRefused n) = refused n
 abbrev pub hasScgi : List ℕ → Outcome Bool
 hasScgi block = then (parsed block) (λ hs. gives (has scgi1 hs))
 
+-- 8, 9, 10 in turn: what is asked after the names
+abbrev pub restOf : List ℕ → Outcome ℕ
+restOf block = then (parsed block) (λ hs. then (statedBy hs) (λ n. need (leb n 1048576) 9 (need (has scgi1 hs) 10 (gives n))))
+
 -- what the code's answer says
 abbrev pub checkedOutcome : Checked → Outcome ℕ
 checkedOutcome (Body n) = gives n

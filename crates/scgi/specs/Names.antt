@@ -4,9 +4,11 @@ use Prim.Native.Nat.{ℕ, zero, suc, _+_, _*_, _≤_, _<_}
 use mathlib.Core.Path.{_≡_}
 use mathlib.Core.List.{List, [], _∷_}
 use lib.ListN.{length, take, drop, getD}
-use Rattle.octets.specs.Outcome.{gives}
+use Rattle.octets.specs.Outcome.{refused, gives}
 use Rattle.octets.specs.Copy.{over}
-use Rattle.scgi.specs.Block.{Header, parsed}
+use Rattle.scgi.specs.Block.{Header, parsed, countOf}
+use Rattle.scgi.specs.declared.names.Stored.{Stored}
+use Rattle.scgi.specs.declared.names.Stored.the-variants.{Headers, Full, Refused}
 
 -- the numbers of headers that are printed from i on
 unfoldable pub namePlaces : ℕ → List Header → List ℕ
@@ -16,6 +18,22 @@ namePlaces i (h ∷ hs) = i ∷ (length (h .name) ∷ namePlaces (i + length (h 
 -- the list after is the list before with the numbers of the block's headers over its front
 abbrev pub NamesStored : List ℕ → List ℕ → List ℕ → Type 0
 NamesStored b before after = (hs : List Header) → parsed b ≡ gives hs → after ≡ over before 0 (namePlaces 0 hs)
+
+-- the numbers of the block's n headers were stored in the list
+pub record NamesKept (b ps : List ℕ) (n : ℕ) : Type 0 where
+  pub count : countOf b ≡ gives n
+  pub room : 2 * n ≤ length ps
+  pub before : List ℕ
+  pub stored : NamesStored b before ps
+
+-- what the code's answer says: a list that is full has less room than the headers of a well formed block take
+abbrev pub FoundBy : List ℕ → List ℕ → List ℕ → Stored → Type 0
+FoundBy b before after (Headers n) = (countOf b ≡ gives n) × (2 * n ≤ length before) × NamesStored b before after
+FoundBy b before after Full = (n : ℕ) → countOf b ≡ gives n → length before < 2 * n
+FoundBy b before after (Refused k) = countOf b ≡ refused k
+
+pub record NamesFound (b before after : List ℕ) (r : Stored) : Type 0 where
+  pub answer : FoundBy b before after r
 
 -- the name whose numbers stand from 2 * k on
 abbrev pub nameAt : List ℕ → List ℕ → ℕ → List ℕ

@@ -4,14 +4,17 @@ ghost use mathlib.Core.Bool.{true};
 ghost use Rattle.octets.specs.Outcome.{gives, then};
 ghost use Rattle.octets.specs.Lists.{different};
 ghost use Rattle.scgi.specs.Block.{parsed, wellFormed, names};
-ghost use Rattle.scgi.specs.Check.{statedOutcome, statedIn, hasScgi, checkedOutcome, checkBlock};
+ghost use Rattle.scgi.specs.Check.{statedOutcome, statedIn, hasScgi, checkedOutcome, restOf, checkBlock};
 use crate::block::Count;
 use crate::block::HeaderPlace;
 use crate::block::count_headers;
 use crate::block::header_at;
 use crate::lookup::Place;
 use crate::lookup::seek;
+use crate::names::Stored;
 use crate::names::names_differ;
+use crate::names::store_names;
+use crate::names::stored_differ;
 use octets::compare::same;
 use octets::decimal;
 use octets::decimal::Number;
@@ -68,8 +71,29 @@ pub enum Checked {
     Refused(u8),
 }
 
-// Whether a block is that of a request.
-pub fn check_block(block: &[u8]) -> Checked
+// What is asked of a well formed block, no two names of which are equal, after its names.
+fn check_rest(block: &[u8]) -> Checked
+    requires { ⌜ then (parsed (now block)) (λ hs. gives (different (names hs))) ≡ gives true ⌝ }
+    ensures { λ r. ⌜ checkedOutcome r ≡ restOf (now (block .entry)) ⌝ }
+{
+    let l = stated_length(block);
+    let Stated::Length(len) = l else {
+        let Stated::Refused(k) = l else {
+            return Checked::Refused(0);
+        };
+        return Checked::Refused(k);
+    };
+    if 1048576 < len {
+        return Checked::Refused(9);
+    }
+    if !has_scgi(block) {
+        return Checked::Refused(10);
+    }
+    Checked::Body(len as usize)
+}
+
+// Whether a block is that of a request: of any number of headers, which are counted first.
+fn check_large(block: &[u8]) -> Checked
     ensures { λ r. ⌜ checkedOutcome r ≡ checkBlock (now (block .entry)) ⌝ }
 {
     let c = count_headers(block);
@@ -85,18 +109,23 @@ pub fn check_block(block: &[u8]) -> Checked
     if !names_differ(block, n) {
         return Checked::Refused(7);
     }
-    let l = stated_length(block);
-    let Stated::Length(len) = l else {
-        let Stated::Refused(k) = l else {
-            return Checked::Refused(0);
-        };
-        return Checked::Refused(k);
-    };
-    if 1048576 < len {
-        return Checked::Refused(9);
+    check_rest(block)
+}
+
+// Whether a block is that of a request. Most have at most 32 headers, and these are walked once for their count and their names.
+pub fn check_block(block: &[u8]) -> Checked
+    ensures { λ r. ⌜ checkedOutcome r ≡ checkBlock (now (block .entry)) ⌝ }
+{
+    let mut few = [0usize; 64];
+    let s = store_names(block, &mut few);
+    match s {
+        Stored::Refused(k) => Checked::Refused(k),
+        Stored::Full => check_large(block),
+        Stored::Headers(n) => {
+            if !stored_differ(block, &few, n) {
+                return Checked::Refused(7);
+            }
+            check_rest(block)
+        }
     }
-    if !has_scgi(block) {
-        return Checked::Refused(10);
-    }
-    Checked::Body(len as usize)
 }

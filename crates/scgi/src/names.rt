@@ -5,32 +5,46 @@ ghost use lib.ListN.{length};
 ghost use Rattle.octets.specs.Outcome.{gives, then};
 ghost use Rattle.octets.specs.Lists.{isIn, different};
 ghost use Rattle.scgi.specs.Block.{parsed, countOf, names};
-ghost use Rattle.scgi.specs.Names.{NamesStored, nameAt, namesAt, Inside, AllInside};
+ghost use Rattle.scgi.specs.Names.{NamesKept, NamesFound, nameAt, namesAt, Inside, AllInside};
 use crate::block::HeaderPlace;
 use crate::block::header_at;
 use octets::compare::same;
 
-// Stores where each name of a block of n headers stands: two numbers a header, start and length.
-fn store_names(block: &[u8], n: usize, places: &mut [usize])
-    requires { ⌜ (countOf (now block) ≡ gives n) × (2 * n ≤ length (now places)) ⌝ }
-    ensures { λ r. ⌜ NamesStored (now (block .entry)) (now (places .entry)) (now (places .exit)) ⌝ }
+pub enum Stored {
+    // How many headers there are, the places of whose names are stored.
+    Headers(usize),
+    // The list has no room for all of them.
+    Full,
+    Refused(u8),
+}
+
+// Stores where each name of a block stands, two numbers a header, start and length, as far as there is room. It counts them on the way.
+pub fn store_names(block: &[u8], places: &mut [usize]) -> Stored
+    ensures { λ r. ⌜ NamesFound (now (block .entry)) (now (places .entry)) (now (places .exit)) r ⌝ }
 {
     let mut i: usize = 0;
-    let mut k: usize = 0;
+    let mut n: usize = 0;
     while i < block.len() {
+        if places.len() - 2 * n < 2 {
+            return Stored::Full;
+        }
         let h = header_at(block, i);
         let HeaderPlace::At {
             name_end,
             value_end,
         } = h
         else {
-            return;
+            let HeaderPlace::Refused(k) = h else {
+                return Stored::Refused(0);
+            };
+            return Stored::Refused(k);
         };
-        places[k] = i;
-        places[k + 1] = name_end - i;
-        k += 2;
+        places[2 * n] = i;
+        places[2 * n + 1] = name_end - i;
+        n += 1;
         i = value_end + 1;
     }
+    Stored::Headers(n)
 }
 
 // The name with the number k.
@@ -60,10 +74,10 @@ fn repeated(block: &[u8], places: &[usize], k: usize, n: usize) -> bool
     false
 }
 
-// Whether n stored names differ from each other.
-fn all_differ(block: &[u8], places: &[usize], n: usize) -> bool
-    requires { ⌜ (2 * n ≤ length (now places)) × AllInside (now block) (now places) n ⌝ }
-    ensures { λ r. ⌜ r ≡ different (namesAt (now (block .entry)) (now (places .entry)) 0 n) ⌝ }
+// Whether the names of a block of n headers, whose places were stored, differ: each pair is compared.
+pub fn stored_differ(block: &[u8], places: &[usize], n: usize) -> bool
+    requires { ⌜ NamesKept (now block) (now places) n ⌝ }
+    ensures { λ r. ⌜ then (parsed (now (block .entry))) (λ hs. gives (different (names hs))) ≡ gives r ⌝ }
 {
     let mut k: usize = 0;
     while k < n {
@@ -75,13 +89,13 @@ fn all_differ(block: &[u8], places: &[usize], n: usize) -> bool
     true
 }
 
-// Whether the names of a block of n headers differ: each pair is compared, by places that are found once and stored in a lent list.
+// Whether the names of a block of n headers differ, by places that are stored in a lent list with room for all.
 pub fn names_differ_by(block: &[u8], n: usize, places: &mut [usize]) -> bool
     requires { ⌜ (countOf (now block) ≡ gives n) × (2 * n ≤ length (now places)) ⌝ }
     ensures { λ r. ⌜ then (parsed (now (block .entry))) (λ hs. gives (different (names hs))) ≡ gives r ⌝ }
 {
-    store_names(block, n, places);
-    all_differ(block, places, n)
+    store_names(block, places);
+    stored_differ(block, places, n)
 }
 
 // The same for as many headers as a request may have.

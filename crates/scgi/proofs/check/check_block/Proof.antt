@@ -3,126 +3,86 @@
 use mathlib.Core.Path.{_≡_, sym, ap, _∙_}
 use Prim.Native.Nat.{_≤_}
 use native.Mathlib.Omega.{arith}
-use lib.ListN.{length}
 use borrow.Author.Needs.{needs}
 use borrow.Author.Tests.{not-true, not-false}
 use Rattle.octets.specs.Outcome.{gives}
-use Rattle.scgi.proofs.CheckSteps.{too-many, equal-names, unstated, too-long, no-scgi, passes}
-use Rattle.scgi.proofs.Lookups.{well-counted, count-refused}
-use Rattle.scgi.proofs.Walks.{Counted, counted}
+use Rattle.scgi.proofs.CheckSteps.{equal-names, other-names}
+use Rattle.scgi.proofs.Lookups.{count-refused}
+use Rattle.scgi.proofs.NamePlaces.{kept}
 use Rattle.scgi.proofs.check.check_block.Statement.{statement}
 use Rattle.scgi.proofs.check.check_block.Tie as tie
-use Rattle.scgi.specs.Block.{countOutcome, countOf}
-use Rattle.scgi.specs.Check.{statedOutcome, checkBlock}
+use Rattle.scgi.specs.Block.{countOf}
+use Rattle.scgi.specs.Check.{checkBlock}
 
--- the headers, where the pattern matched
-count : (c : tie.After-known-told) → countOf (c .before .before .before .before .before .args .block .now) ≡ gives (c .before .c .given .0 .0)
-count c = sym (c .before .before .before .count-headers .ensures) ∙ ap countOutcome (c .before .c .given .1)
+-- the headers, where their names are stored
+count :
+    (c : tie.After-known-told2)
+    → (countOf (c .before .before .before .before .before .before .before .args .block .now) ≡ gives (c .before .s2 .given .0 .0)) × (c .before .s2 .given .0 .0 ≤ 128)
+count c =
+    let f = rw (c .before .s2 .given .1) at (c .before .before .before .before .store-names .ensures) in
+    (f .answer .0, omega (arith, f .answer .1))
 
-headers : (c : tie.After-known-told) → Counted (c .before .before .before .before .before .args .block .now) (c .before .c .given .0 .0)
-headers c = counted _ _ (count c)
+slice-aggregate-store-names : tie.Need-slice-aggregate-store-names
+slice-aggregate-store-names c = search needs
 
-few : (c : tie.Else1) → length (headers (c .before) .hs) ≤ 128
-few c = omega (arith, headers (c .before) .count)
+store-names-requires : tie.Need-store-names-requires
+store-names-requires c κs = search needs
 
-count-headers-requires : tie.Need-count-headers-requires
-count-headers-requires c κs = search needs
-
-enum-known-c : tie.Need-enum-known-c
-enum-known-c c = search needs
-
-enum-known-c-2 : tie.Need-enum-known-c-2
-enum-known-c-2 c = search needs
-
-enum-known-c-3 : tie.Need-enum-known-c-3
-enum-known-c-3 c = search needs
+enum-known-s : tie.Need-enum-known-s
+enum-known-s c = search needs
 
 enum-told : tie.Need-enum-told
 enum-told c = search needs
 
+check-large-requires : tie.Need-check-large-requires
+check-large-requires c κs = search needs
+
+enum-known-s-2 : tie.Need-enum-known-s-2
+enum-known-s-2 c = search needs
+
+slice-aggregate-stored-differ : tie.Need-slice-aggregate-stored-differ
+slice-aggregate-stored-differ c = search needs
+
+stored-differ-requires : tie.Need-stored-differ-requires
+stored-differ-requires c κs = kept _ _ _ _ (search needs) _ (c .before .before .before .before .before .store-names .ensures) (c .before .before .s2 .given .1)
+
 returns : tie.Need-returns
-returns c = search needs
+returns c =
+    let k = c .before .before .before in
+    sym (equal-names _ _ (count k .0) (count k .1) (c .before .stored-differ .ensures ∙ ap gives (not-true _ (c .if1 .taken))))
+
+check-rest-requires : tie.Need-check-rest-requires
+check-rest-requires c κs = c .before .stored-differ .ensures ∙ ap gives (not-false _ (c .if1 .left))
 
 returns-2 : tie.Need-returns-2
 unfolding checkBlock
-returns-2 c = sym (count-refused _ _ _ (sym (c .before .before .before .before .before .before .count-headers .ensures) ∙ ap countOutcome (c .before .before .before .before .c2 .given .1 ∙ c .before .c3 .given .1)))
+returns-2 c =
+    let f = rw (c .before .s .given .1) at (c .before .before .before .before .store-names .ensures) in
+    sym (count-refused _ _ _ (f .answer))
 
 returns-3 : tie.Need-returns-3
-returns-3 c = sym (too-many _ _ (headers (c .before) .is) (omega (arith, headers (c .before) .count)))
-
-names-differ-requires : tie.Need-names-differ-requires
-names-differ-requires c κs = (count (c .before), c .if1 .left)
+returns-3 c = search needs
 
 returns-4 : tie.Need-returns-4
-returns-4 c = sym (equal-names _ _ (headers (c .before .before .before) .is) (few (c .before .before)) (c .before .names-differ .ensures ∙ ap gives (not-true _ (c .if2 .taken))))
-
-stated-length-requires : tie.Need-stated-length-requires
-stated-length-requires c κs = well-counted _ _ (count (c .before .before .before))
-
-enum-known-l : tie.Need-enum-known-l
-enum-known-l c = search needs
-
-enum-known-l-2 : tie.Need-enum-known-l-2
-enum-known-l-2 c = search needs
-
-enum-known-l-3 : tie.Need-enum-known-l-3
-enum-known-l-3 c = search needs
-
-enum-told-2 : tie.Need-enum-told-2
-enum-told-2 c = search needs
-
-returns-5 : tie.Need-returns-5
-returns-5 c = search needs
-
-returns-6 : tie.Need-returns-6
-returns-6 c =
-    let d = c .before .before .before .before .before .before .before .before in
-    let s = c .before .before .before .before .before .before in
-    sym (unstated _ _ (headers (d .before .before) .is) (few (d .before)) (d .names-differ .ensures ∙ ap gives (not-false _ (s .before .if2 .left))) _ (sym (s .stated-length .ensures) ∙ ap statedOutcome (c .before .before .before .before .l2 .given .1 ∙ c .before .l3 .given .1)))
-
-returns-7 : tie.Need-returns-7
-returns-7 c =
-    let d = c .before .before .before .before .before .before in
-    let s = c .before .before .before .before in
-    sym (too-long _ _ (headers (d .before .before) .is) (few (d .before)) (d .names-differ .ensures ∙ ap gives (not-false _ (s .before .if2 .left))) _ (sym (s .stated-length .ensures) ∙ ap statedOutcome (c .before .before .l .given .1)) (c .if3 .taken))
-
-has-scgi-requires : tie.Need-has-scgi-requires
-has-scgi-requires c κs = c .before .before .before .before .before .before .names-differ .ensures ∙ ap gives (not-false _ (c .before .before .before .before .before .if2 .left))
-
-returns-8 : tie.Need-returns-8
-returns-8 c =
-    let d = c .before .before .before .before .before .before .before .before in
-    let s = c .before .before .before .before .before .before in
-    sym (no-scgi _ _ (headers (d .before .before) .is) (few (d .before)) (d .names-differ .ensures ∙ ap gives (not-false _ (s .before .if2 .left))) _ (sym (s .stated-length .ensures) ∙ ap statedOutcome (c .before .before .before .before .l .given .1)) (c .before .before .if3 .left) (c .before .has-scgi .ensures ∙ ap gives (not-true _ (c .if4 .taken))))
-
-returns-9 : tie.Need-returns-9
-returns-9 c =
-    let d = c .before .before .before .before .before .before .before .before in
-    let s = c .before .before .before .before .before .before in
-    sym (passes _ _ (headers (d .before .before) .is) (few (d .before)) (d .names-differ .ensures ∙ ap gives (not-false _ (s .before .if2 .left))) _ (sym (s .stated-length .ensures) ∙ ap statedOutcome (c .before .before .before .before .l .given .1)) (c .before .before .if3 .left) (c .before .has-scgi .ensures ∙ ap gives (not-false _ (c .if4 .left))))
+returns-4 c =
+    let d = c .before .before in
+    let k = d .before .before in
+    c .check-rest .ensures ∙ sym (other-names _ _ (count k .0) (count k .1) (d .stored-differ .ensures ∙ ap gives (not-false _ (c .before .if1 .left))))
 
 pub check-block-spec : {M : Type 1} → statement M
 check-block-spec =
     tie.close
     (tie.spec
-    count-headers-requires
-    enum-known-c
-    enum-known-c-2
-    enum-known-c-3
+    slice-aggregate-store-names
+    store-names-requires
+    enum-known-s
     enum-told
+    check-large-requires
+    enum-known-s-2
+    slice-aggregate-stored-differ
+    stored-differ-requires
     returns
+    check-rest-requires
     returns-2
     returns-3
-    names-differ-requires
-    returns-4
-    stated-length-requires
-    enum-known-l
-    enum-known-l-2
-    enum-known-l-3
-    enum-told-2
-    returns-5
-    returns-6
-    returns-7
-    has-scgi-requires
-    returns-8
-    returns-9)
+    returns-4)
