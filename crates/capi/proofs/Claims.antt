@@ -10,11 +10,12 @@ use lib.ListN.{length}
 use Rattle.octets.specs.Outcome.{Outcome, refused, gives, then, need}
 use Rattle.scgi.specs.Read.{readOf}
 use Rattle.scgi.specs.Write.{writeOf, outputAfter}
-use Rattle.scgi.specs.Lookup.{lookupOf}
-use Rattle.scgi.specs.Setting.{settingOf}
+use Rattle.headers.specs.Lookup.{lookupOf}
+use Rattle.headers.specs.Setting.{settingOf}
 use Rattle.scgi.specs.Spool.{requestsOf}
 use Rattle.response.specs.Response.{responseOf}
 use Rattle.scgi.proofs.Claims.{numbers-hold}
+use Rattle.headers.proofs.Claims as Headers
 use Rattle.response.proofs.Claims as Response
 use Rattle.gateway.specs.Step.{stepOf}
 use Rattle.gateway.proofs.Claims as Gateway
@@ -42,8 +43,8 @@ zero-is-given =
     record {
       read = λ s. told placesNumbers (readOf s) (λ e. false≢true (numbers-hold .reader s 0 e));
       write = λ b y room. told countNumbers (writeOf b y room) (λ e. false≢true (numbers-hold .writer b y room 0 e));
-      find = λ b n. told partNumbers (lookupOf b n) (λ e. omega (arith, numbers-hold .lookup b n 0 e));
-      setting = λ f s n. told heldNumbers (settingOf f s n) (λ e. omega (arith, numbers-hold .setting f s n 0 e));
+      find = λ b n. told partNumbers (lookupOf b n) (λ e. omega (arith, Headers.numbers-hold .lookup b n 0 e));
+      setting = λ f s n. told heldNumbers (settingOf f s n) (λ e. omega (arith, Headers.numbers-hold .setting f s n 0 e));
       spool = λ s room. told spoolNumbers (gives (requestsOf s room)) (λ e. let z : _≡_ {A = ℕ} 0 1 = cc in omega arith);
       respond = λ s. told answerNumbers (responseOf s) (λ e. false≢true (Response.numbers-hold s 0 e));
       gateway = λ f s m h start len room.

@@ -4,7 +4,7 @@ use Prim.Native.Nat.{ℕ}
 use mathlib.Core.List.{List, [], _∷_}
 use mathlib.Core.Option.{Option, none, some}
 use Rattle.octets.specs.Outcome.{Outcome, gives, then}
-use Rattle.scgi.specs.Lookup.{Part, lookupOf}
+use Rattle.headers.specs.Lookup.{Part, lookupOf}
 
 -- 1, start and length of the value in the block; "Whether the name is there is a separate answer": 0 where it is absent, with an empty part
 abbrev pub partNumbers : Option Part → List ℕ

@@ -3,7 +3,7 @@
 use Prim.Native.Nat.{ℕ}
 use mathlib.Core.List.{List, [], _∷_}
 use Rattle.octets.specs.Outcome.{Outcome, gives, then}
-use Rattle.scgi.specs.Setting.{Held, in-first, in-second, in-neither, settingOf}
+use Rattle.headers.specs.Setting.{Held, in-first, in-second, in-neither, settingOf}
 
 -- 1 for the connection facts, 2 for the site settings, with start and length in that block: "a part of whichever of the two blocks held the
 -- name"; 0 where it is absent, with an empty part

@@ -2,8 +2,8 @@
 ghost use Rattle.capi.specs.Answer.{Answered};
 ghost use Rattle.capi.specs.Find.{findGives};
 use crate::answer::give;
-use scgi::lookup::Place;
-use scgi::lookup::find;
+use headers::lookup::Place;
+use headers::lookup::find;
 
 // Where the value of a name stands in a block. Gives 1 there or 0 absent, start, length.
 #[no_mangle]

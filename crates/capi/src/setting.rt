@@ -2,8 +2,8 @@
 ghost use Rattle.capi.specs.Answer.{Answered};
 ghost use Rattle.capi.specs.Setting.{settingGives};
 use crate::answer::give;
-use scgi::setting::Where;
-use scgi::setting::find_setting;
+use headers::setting::Where;
+use headers::setting::find_setting;
 
 // Where the value of a name stands, the connection facts before the site settings. Gives 0 absent, 1 in the facts, 2 in the site settings; start
 // and length in that block.

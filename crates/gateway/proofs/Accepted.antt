@@ -15,8 +15,8 @@ use Rattle.octets.specs.Lists.{All, _&_, NoNul}
 use Rattle.octets.proofs.Bools.{and-right}
 use Rattle.octets.proofs.Alls.{all-implies, all-each, all-without, all-after}
 use Rattle.octets.proofs.Names.{test-different}
-use Rattle.scgi.specs.Block.{Header, names}
-use Rattle.scgi.specs.Grammar.{first, Among, here, later, IsRequest}
+use Rattle.headers.specs.Block.{Header, names, Among, here, later}
+use Rattle.scgi.specs.Grammar.{first, IsRequest}
 use Rattle.http.specs.Lines.{linesOf}
 use Rattle.http.specs.Fields.{Field}
 use Rattle.targets.specs.Target.{targetOf, queryOf}

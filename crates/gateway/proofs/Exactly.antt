@@ -6,7 +6,7 @@ use mathlib.Core.List.{List, [], _++_}
 use native.Mathlib.Nat.{le-refl}
 use lib.ListN.{length}
 use Rattle.octets.specs.Outcome.{gives}
-use Rattle.scgi.specs.Block.{printed}
+use Rattle.headers.specs.Block.{printed}
 use Rattle.scgi.specs.Write.{writeOf}
 use Rattle.scgi.proofs.Claims.{request-once, writes-exactly, write-then-read}
 use Rattle.lent.specs.Mounts.{Route}

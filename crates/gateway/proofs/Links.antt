@@ -10,7 +10,7 @@ use borrow.Author.Tests.{leb-true}
 use Rattle.octets.specs.Outcome.{Outcome, gives, need}
 use Rattle.octets.specs.Kinds.{isName}
 use Rattle.octets.proofs.Outcomes.{need-gives, given-gives, gives-once, then-gives}
-use Rattle.scgi.specs.Block.{Header, printed}
+use Rattle.headers.specs.Block.{Header, printed}
 use Rattle.http.specs.Head.{headOf}
 use Rattle.http.specs.Lines.{linesOf}
 use Rattle.http.specs.RequestLine.{FirstLine, requestLineOf}

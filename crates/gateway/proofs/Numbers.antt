@@ -10,7 +10,7 @@ use Rattle.octets.specs.Outcome.{Outcome, refused, gives}
 use Rattle.octets.specs.Kinds.{oneOf, isName}
 use Rattle.octets.specs.Decimal.{numberOf}
 use Rattle.octets.proofs.Refusals.{Refuses, with-number, not-refused, number-of, refuses-then, refuses-need, refuses-given}
-use Rattle.scgi.specs.Block.{printed}
+use Rattle.headers.specs.Block.{printed}
 use Rattle.http.specs.Lines.{linesOf}
 use Rattle.http.specs.Fields.{Field}
 use Rattle.http.proofs.Numbers.{head-numbers, line-numbers, field-numbers}

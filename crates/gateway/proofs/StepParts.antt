@@ -11,7 +11,7 @@ use lib.Seq.{length-take-le}
 use borrow.Author.Tests.{leb-true, leb-false, le-leb, lt-leb, eq-eqb}
 use Rattle.octets.specs.Outcome.{Outcome, refused, gives, then, need}
 use Rattle.octets.specs.Decimal.{cap}
-use Rattle.scgi.specs.Block.{Header, parsed, printed}
+use Rattle.headers.specs.Block.{Header, parsed, printed}
 use Rattle.scgi.specs.Grammar.{netstring}
 use Rattle.scgi.specs.Write.{inRoom, writingOutcome, outputAfter, WrittenOut}
 use Rattle.scgi.specs.declared.write.Writing.{Writing}

@@ -12,8 +12,8 @@ use Rattle.octets.specs.Compare.{sameBytes, lowerOf, upperOf}
 use Rattle.octets.specs.Lists.{isIn, different}
 use Rattle.octets.specs.Decimal.{numberFrom, digitsIn}
 use Rattle.octets.specs.Parts.{parted}
-use Rattle.scgi.specs.Block.{printed, paired}
-use Rattle.scgi.specs.Lookup.{valueIn}
+use Rattle.headers.specs.Block.{printed, paired}
+use Rattle.headers.specs.Lookup.{valueIn}
 use Rattle.scgi.specs.Check.{has, checkBlock}
 use Rattle.scgi.specs.Netstring.{lengthFrom}
 use Rattle.scgi.specs.Read.{readOf}

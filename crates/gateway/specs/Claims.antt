@@ -10,7 +10,7 @@ use lib.ListN.{length}
 use Rattle.octets.specs.Outcome.{refused, gives, then, need}
 use Rattle.octets.specs.Kinds.{oneOf}
 use Rattle.framing.specs.Claims.{Frames, SpoolsEqual, SpoolCut, SpoolGoesOn}
-use Rattle.scgi.specs.Block.{printed}
+use Rattle.headers.specs.Block.{printed}
 use Rattle.scgi.specs.Grammar.{encoded, IsRequest}
 use Rattle.scgi.specs.Claims.{ReadBack}
 use Rattle.lent.specs.Mounts.{Route}

@@ -5,7 +5,7 @@ use mathlib.Core.List.{List}
 use lib.Dec.{leb}
 use lib.ListN.{length, take, drop}
 use Rattle.octets.specs.Outcome.{Outcome, gives, then, need}
-use Rattle.scgi.specs.Block.{Header, printed}
+use Rattle.headers.specs.Block.{Header, printed}
 use Rattle.scgi.specs.Grammar.{encoded}
 use Rattle.http.specs.Head.{headOf}
 use Rattle.lent.specs.Settings.{Settings}

@@ -7,7 +7,7 @@ use mathlib.Core.List.{List, _++_}
 use lib.Dec.{leb, eqb}
 use lib.ListN.{length, take, drop}
 use Rattle.octets.specs.Outcome.{Outcome, refused, gives, then, need}
-use Rattle.scgi.specs.Block.{Header}
+use Rattle.headers.specs.Block.{Header}
 use Rattle.scgi.specs.Grammar.{netstring}
 use Rattle.scgi.specs.Write.{inRoom, outputAfter}
 use Rattle.scgi.specs.declared.write.Writing.{Writing}

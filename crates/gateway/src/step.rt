@@ -3,7 +3,7 @@ ghost use mathlib.Core.Path.{_≡_};
 ghost use mathlib.Core.Bool.{true};
 ghost use Prim.Native.Nat.{min, _+_, _-_, _≤_};
 ghost use lib.ListN.{length, take};
-ghost use Rattle.scgi.specs.Block.{parsed, wellFormed};
+ghost use Rattle.headers.specs.Block.{parsed, wellFormed};
 ghost use Rattle.scgi.specs.Write.{WrittenOut};
 ghost use Rattle.lent.specs.Places.{settingsAt, SettingsInside};
 ghost use Rattle.gateway.specs.Step.{stepOf};

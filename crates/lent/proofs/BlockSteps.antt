@@ -15,10 +15,10 @@ use Rattle.octets.specs.Lists.{different}
 use Rattle.octets.specs.Parts.{parted}
 use Rattle.octets.proofs.Lists.{part-first, part-last, nil-empty, nil-filled}
 use Rattle.octets.proofs.Outcomes.{Gave, given-gives, then-gives}
-use Rattle.scgi.specs.Block.{Header, names, headersOf, paired, parsed, wellFormed, countOf, headerIn, HeaderFound}
-use Rattle.scgi.specs.Claims.{Headed}
-use Rattle.scgi.specs.declared.block.HeaderPlace.the-variants.{At, Refused}
-use Rattle.scgi.proofs.Claims.{well-formed-headed, headers-few}
+use Rattle.headers.specs.Block.{Header, names, headersOf, paired, parsed, wellFormed, countOf, headerIn, HeaderFound}
+use Rattle.headers.specs.Claims.{Headed}
+use Rattle.headers.specs.declared.block.HeaderPlace.the-variants.{At, Refused}
+use Rattle.headers.proofs.Claims.{well-formed-headed, headers-few}
 use Rattle.lent.specs.Mounts.{begins}
 use Rattle.lent.specs.Lent.{blockOf, ends, isMount, allMounts, mountsOf}
 

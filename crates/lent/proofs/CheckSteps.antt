@@ -13,10 +13,10 @@ use Rattle.octets.specs.Text.{bytes}
 use Rattle.octets.specs.Outcome.{Outcome, refused, gives, then, need, given}
 use Rattle.octets.specs.Lists.{isNil, different}
 use Rattle.octets.proofs.Outcomes.{need-gives, given-gives, then-gives}
-use Rattle.scgi.specs.Block.{Header, names, headersOf, parsed, wellFormed}
-use Rattle.scgi.specs.Lookup.{valueIn}
-use Rattle.scgi.specs.Claims.{Headed}
-use Rattle.scgi.proofs.Claims.{well-formed-headed}
+use Rattle.headers.specs.Block.{Header, names, headersOf, parsed, wellFormed}
+use Rattle.headers.specs.Lookup.{valueIn}
+use Rattle.headers.specs.Claims.{Headed}
+use Rattle.headers.proofs.Claims.{well-formed-headed}
 use Rattle.lent.specs.Settings.{filled, orIn, sought, isPort, portIn, authOf, settingsOf}
 use Rattle.lent.specs.Lent.{Lent, blockOf, allMounts, mountsOf, lentOf}
 use Rattle.lent.specs.Places.{settingsAt, SettingsFound}

@@ -17,9 +17,8 @@ use Rattle.octets.specs.Lists.{All, no-more, _&_}
 use Rattle.octets.proofs.Alls.{all-implies}
 use Rattle.octets.proofs.Bools.{and-left, and-right, and-false}
 use Rattle.octets.proofs.Compares.{same-true}
-use Rattle.scgi.specs.Block.{Header}
-use Rattle.scgi.specs.Grammar.{here, later}
-use Rattle.scgi.specs.Lookup.{valueIn}
+use Rattle.headers.specs.Block.{Header, here, later}
+use Rattle.headers.specs.Lookup.{valueIn}
 use Rattle.lent.specs.Mounts.{begins, fits, longer, mountOf, beforeSlash, shortened, mountNamed, orShorter, triedIn}
 use Rattle.lent.specs.Claims.{Longest, MountIsLongest, LongestWins, RouteIsPath}
 

@@ -14,10 +14,9 @@ use Rattle.octets.specs.Outcome.{gives, given}
 use Rattle.octets.specs.Compare.{sameBytes}
 use Rattle.octets.specs.Lists.{All, _&_, NoNul, isNil, different}
 use Rattle.octets.proofs.Outcomes.{need-gives, given-gives, gives-once, then-gives}
-use Rattle.scgi.specs.Block.{Header, names, headersOf}
-use Rattle.scgi.specs.Grammar.{Proper}
-use Rattle.scgi.specs.Lookup.{valueIn}
-use Rattle.scgi.proofs.Claims.{headers-proper}
+use Rattle.headers.specs.Block.{Header, names, headersOf, Proper}
+use Rattle.headers.specs.Lookup.{valueIn}
+use Rattle.headers.proofs.Claims.{headers-proper}
 use Rattle.lent.specs.Settings.{Auth, Settings, filled, orIn, sought, isPort, portIn, authOf, settingsOf}
 use Rattle.lent.specs.Lent.{Lent, blockOf, mountsOf, lentOf}
 use Rattle.lent.specs.Claims.{ProperAuth, neither, both, ProperSettings, LentIsProper}

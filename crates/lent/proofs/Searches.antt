@@ -10,10 +10,10 @@ use native.Mathlib.Omega.{arith}
 use lib.ListN.{length, take, drop, length-take}
 use lib.Seq.{take-length, take-take}
 use Rattle.octets.specs.Outcome.{Outcome, refused, gives, then, given}
-use Rattle.scgi.specs.Block.{Header, parsed, wellFormed}
-use Rattle.scgi.specs.Lookup.{Part, partOption, valueIn, placeIn, lookupOf}
-use Rattle.scgi.specs.Claims.{Headed}
-use Rattle.scgi.proofs.Claims.{well-formed-headed, lookup-finds-value, places-inside}
+use Rattle.headers.specs.Block.{Header, parsed, wellFormed}
+use Rattle.headers.specs.Lookup.{Part, partOption, valueIn, placeIn, lookupOf}
+use Rattle.headers.specs.Claims.{Headed}
+use Rattle.headers.proofs.Claims.{well-formed-headed, lookup-finds-value, places-inside}
 use Rattle.lent.specs.Mounts.{mountOf, mountFor, shortened}
 use Rattle.lent.specs.Search.{MountFound}
 use Rattle.lent.specs.declared.search.Mount.{Mount}

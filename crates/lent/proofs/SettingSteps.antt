@@ -19,14 +19,14 @@ use Rattle.octets.specs.Decimal.{numberOf, cap, capped}
 use Rattle.octets.proofs.Bools.{and-false}
 use Rattle.octets.proofs.Lists.{part, nil-empty, nil-filled}
 use Rattle.octets.proofs.Outcomes.{then-gives}
-use Rattle.scgi.specs.Block.{Header, parsed, wellFormed}
-use Rattle.scgi.specs.Lookup.{Part, partIn, partOption, valueIn, placeOutcome, lookupOf}
-use Rattle.scgi.specs.Setting.{Held, in-first, in-second, in-neither, firstOf, settingOf}
-use Rattle.scgi.specs.Claims.{Headed}
-use Rattle.scgi.specs.declared.lookup.Place.{Place}
-use Rattle.scgi.specs.declared.lookup.Place.the-variants.{At, Absent, Refused}
-use Rattle.scgi.proofs.Claims.{well-formed-headed, lookup-finds-value, places-inside}
-use Rattle.scgi.proofs.lookup.Place.{the-type}
+use Rattle.headers.specs.Block.{Header, parsed, wellFormed}
+use Rattle.headers.specs.Lookup.{Part, partIn, partOption, valueIn, placeOutcome, lookupOf}
+use Rattle.headers.specs.Setting.{Held, in-first, in-second, in-neither, firstOf, settingOf}
+use Rattle.headers.specs.Claims.{Headed}
+use Rattle.headers.specs.declared.lookup.Place.{Place}
+use Rattle.headers.specs.declared.lookup.Place.the-variants.{At, Absent, Refused}
+use Rattle.headers.proofs.Claims.{well-formed-headed, lookup-finds-value, places-inside}
+use Rattle.headers.proofs.lookup.Place.{the-type}
 use Rattle.lent.specs.Mounts.{begins}
 use Rattle.lent.specs.Settings.{filled, orIn, sought, portNumber, isPort, portIn, authOf, settingsOf}
 use Rattle.lent.specs.Places.{valueAt, factOutcome, authOutcome, valueOutcome, settingsOutcome, SettingsIn, FactFound, AuthFound, ValueFound, PortFound, SettingsFound}

@@ -13,8 +13,8 @@ use Rattle.octets.specs.Compare.{sameBytes}
 use Rattle.octets.specs.Lists.{isIn, different}
 use Rattle.octets.specs.Decimal.{numberFrom}
 use Rattle.octets.specs.Parts.{parted}
-use Rattle.scgi.specs.Block.{Header, paired, printed}
-use Rattle.scgi.specs.Lookup.{valueIn}
+use Rattle.headers.specs.Block.{Header, paired, printed}
+use Rattle.headers.specs.Lookup.{valueIn}
 use Rattle.lent.specs.Settings.{Settings, settingsOf}
 use Rattle.lent.specs.Mounts.{Route, begins, mountOf, mountFor, routeOf}
 use Rattle.lent.specs.Lent.{Lent, ends, allMounts, blockOf, mountsOf, lentOf}

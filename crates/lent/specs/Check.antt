@@ -4,7 +4,7 @@ use Prim.Native.Nat.{ℕ}
 use mathlib.Core.Path.{_≡_}
 use mathlib.Core.List.{List}
 use Rattle.octets.specs.Outcome.{Outcome, refused, gives, then}
-use Rattle.scgi.specs.Block.{parsed}
+use Rattle.headers.specs.Block.{parsed}
 use Rattle.lent.specs.Lent.{Lent, lentOf}
 use Rattle.lent.specs.Places.{settingsAt, SettingsInside}
 use Rattle.lent.specs.declared.check.Checked.{Checked}

@@ -8,8 +8,7 @@ use mathlib.Core.Option.{Option, none, some}
 use lib.ListN.{length}
 use Rattle.octets.specs.Outcome.{refused, gives}
 use Rattle.octets.specs.Lists.{All, NoNul}
-use Rattle.scgi.specs.Block.{Header, parsed}
-use Rattle.scgi.specs.Grammar.{Proper, Among}
+use Rattle.headers.specs.Block.{Header, parsed, Proper, Among}
 use Rattle.lent.specs.Settings.{Auth, Settings}
 use Rattle.lent.specs.Lent.{Lent, lentOf}
 use Rattle.lent.specs.Mounts.{fits, mountOf, tried, routeOf}

@@ -7,7 +7,7 @@ use lib.Dec.{eqb, leb}
 use lib.ListN.{length}
 use Rattle.octets.specs.Outcome.{Outcome, gives, then, need, given}
 use Rattle.octets.specs.Lists.{isNil, different}
-use Rattle.scgi.specs.Block.{Header, names, headersOf}
+use Rattle.headers.specs.Block.{Header, names, headersOf}
 use Rattle.lent.specs.Mounts.{begins}
 use Rattle.lent.specs.Settings.{Settings, settingsOf}
 

@@ -8,8 +8,8 @@ use lib.Dec.{eqb, leb}
 use lib.ListN.{length, take, drop}
 use Rattle.octets.specs.Outcome.{Outcome, given}
 use Rattle.octets.specs.Compare.{sameBytes}
-use Rattle.scgi.specs.Block.{Header}
-use Rattle.scgi.specs.Lookup.{valueIn}
+use Rattle.headers.specs.Block.{Header}
+use Rattle.headers.specs.Lookup.{valueIn}
 use Rattle.lent.specs.declared.search.Slash.{Slash}
 use Rattle.lent.specs.declared.search.Slash.the-variants.{At, Absent}
 

@@ -8,8 +8,8 @@ use mathlib.Core.Option.{Option, none, some}
 use lib.ListN.{length, take, drop}
 use Rattle.octets.specs.Text.{bytes}
 use Rattle.octets.specs.Outcome.{Outcome, refused, gives, then}
-use Rattle.scgi.specs.Block.{parsed}
-use Rattle.scgi.specs.Lookup.{valueIn}
+use Rattle.headers.specs.Block.{parsed}
+use Rattle.headers.specs.Lookup.{valueIn}
 use Rattle.lent.specs.Settings as Values
 use Rattle.lent.specs.Settings.{filled, sought, portIn, authOf, settingsOf}
 use Rattle.lent.specs.declared.places.FactPlace.{FactPlace}

@@ -5,7 +5,7 @@ use mathlib.Core.Path.{_≡_}
 use mathlib.Core.List.{List}
 use lib.ListN.{length, take, drop}
 use Rattle.octets.specs.Outcome.{Outcome, refused, gives, then}
-use Rattle.scgi.specs.Block.{Header, parsed}
+use Rattle.headers.specs.Block.{Header, parsed}
 use Rattle.lent.specs.Mounts.{mountFor}
 use Rattle.lent.specs.declared.search.Mount.{Mount}
 use Rattle.lent.specs.declared.search.Mount.the-variants.{Found, Refused}

@@ -9,8 +9,8 @@ use Rattle.octets.specs.Text.{bytes}
 use Rattle.octets.specs.Outcome.{Outcome, refused, gives, then, need, given}
 use Rattle.octets.specs.Lists.{isNil}
 use Rattle.octets.specs.Decimal.{numberOf}
-use Rattle.scgi.specs.Block.{Header}
-use Rattle.scgi.specs.Lookup.{valueIn}
+use Rattle.headers.specs.Block.{Header}
+use Rattle.headers.specs.Lookup.{valueIn}
 use Rattle.lent.specs.Mounts.{begins}
 
 -- AUTH_TYPE and REMOTE_USER: "the other two both there and not empty, or both absent"

@@ -2,14 +2,14 @@
 ghost use mathlib.Core.Path.{_≡_};
 ghost use mathlib.Core.Bool.{true};
 ghost use Rattle.octets.specs.Outcome.{gives, then, need};
-ghost use Rattle.scgi.specs.Block.{parsed, wellFormed};
+ghost use Rattle.headers.specs.Block.{parsed, wellFormed};
 ghost use Rattle.lent.specs.Lent.{blockOf, allMounts, mountsOf};
-use scgi::block::Count;
-use scgi::block::HeaderPlace;
-use scgi::block::count_headers;
-use scgi::block::header_at;
-use scgi::names::names_differ;
-use scgi::names::names_differ_by;
+use headers::block::Count;
+use headers::block::HeaderPlace;
+use headers::block::count_headers;
+use headers::block::header_at;
+use headers::names::names_differ;
+use headers::names::names_differ_by;
 
 // Whether connection facts or site settings are a block of at most 1,024 bytes, no name twice in it. Such a block has at most 341 headers.
 pub fn is_block(block: &[u8]) -> bool

@@ -1,11 +1,11 @@
 // The mount that a path goes to. A mount is a header of the mounts block: its name, and the pool that its value names.
 ghost use mathlib.Core.Path.{_≡_};
 ghost use mathlib.Core.Bool.{true};
-ghost use Rattle.scgi.specs.Block.{wellFormed};
+ghost use Rattle.headers.specs.Block.{wellFormed};
 ghost use Rattle.lent.specs.Mounts.{slashPart, shortened};
 ghost use Rattle.lent.specs.Search.{MountFound};
-use scgi::lookup::Place;
-use scgi::lookup::seek;
+use headers::lookup::Place;
+use headers::lookup::seek;
 
 pub enum Slash {
     At(usize),

@@ -2,7 +2,7 @@
 ghost use mathlib.Core.Path.{_≡_};
 ghost use mathlib.Core.Bool.{true, cond};
 ghost use lib.Dec.{eqb};
-ghost use Rattle.scgi.specs.Block.{wellFormed};
+ghost use Rattle.headers.specs.Block.{wellFormed};
 ghost use Rattle.lent.specs.Settings.{isPort};
 ghost use Rattle.lent.specs.declared.settings.Value.the-variants.{At, Breach};
 ghost use Rattle.lent.specs.Places.{FactFound, AuthFound, ValueFound, PortFound, SettingsFound};
@@ -10,12 +10,12 @@ use crate::places::AuthPlaces;
 use crate::places::FactPlace;
 use crate::places::SettingPlaces;
 use crate::places::ValuePlace;
+use headers::lookup::Place;
+use headers::lookup::seek;
+use headers::setting::Where;
+use headers::setting::find_setting;
 use octets::decimal;
 use octets::decimal::Number;
-use scgi::lookup::Place;
-use scgi::lookup::seek;
-use scgi::setting::Where;
-use scgi::setting::find_setting;
 
 // The answers of the steps. Every breach has the number 20.
 pub enum Fact {

@@ -19,13 +19,13 @@ use Rattle.octets.proofs.Bools.{or-false}
 use Rattle.octets.proofs.Compares.{same-true, same-false}
 use Rattle.octets.proofs.Names.{test-different}
 use Rattle.octets.proofs.Outcomes.{Gave, then-gives}
-use Rattle.scgi.specs.Block.{Header, names, parsed, wellFormed, countOf, HeaderFound}
+use Rattle.headers.specs.Block.{Header, names, parsed, wellFormed, countOf, HeaderFound}
 use Rattle.scgi.specs.Grammar.{scgi1}
-use Rattle.scgi.specs.Lookup.{Part, partOption, valueIn, lookupOf}
+use Rattle.headers.specs.Lookup.{Part, partOption, valueIn, lookupOf}
 use Rattle.scgi.specs.Check.{statedBy, statedIn, has, hasScgi, restOf, checkBlock}
-use Rattle.scgi.specs.declared.block.HeaderPlace.the-variants.{At}
-use Rattle.scgi.proofs.Walks.{behind-header, none-behind, Counted, counted}
-use Rattle.scgi.proofs.Lookups.{well, well-parsed, value-found}
+use Rattle.headers.specs.declared.block.HeaderPlace.the-variants.{At}
+use Rattle.headers.proofs.Walks.{behind-header, none-behind, Counted, counted}
+use Rattle.headers.proofs.Lookups.{well, well-parsed, value-found}
 
 -- The stated length.
 

@@ -20,10 +20,10 @@ use Rattle.octets.proofs.Outcomes.{need-gives, given-gives, then-gives}
 use Rattle.octets.proofs.Compares.{same-true, same-refl}
 use Rattle.octets.proofs.Names.{different-test, test-different}
 use Rattle.octets.proofs.Decimals.{number-of-says, says-of-number}
-use Rattle.scgi.specs.Block.{Header, names, printed, headersOf}
-use Rattle.scgi.specs.Grammar.{States, first, Among, here, later, scgi1, IsRequest}
+use Rattle.headers.specs.Block.{Header, names, printed, headersOf, Among, here, later}
+use Rattle.scgi.specs.Grammar.{States, first, scgi1, IsRequest}
 use Rattle.scgi.specs.Check.{statedBy, has, checkBlock}
-use Rattle.scgi.proofs.Blocks.{read-printed, printed-read, same-header}
+use Rattle.headers.proofs.Blocks.{read-printed, printed-read, same-header}
 
 states-test : (n : ℕ) (hs : List Header) → States n hs → statedBy hs ≡ gives n
 states-test n (h ∷ hs) (first e p) = rw (e, same-refl (bytes "CONTENT_LENGTH"), number-of-says n (h .value) p)

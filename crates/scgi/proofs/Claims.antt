@@ -1,10 +1,9 @@
 -- Each claim of specs/Claims.antt, proved. Crates above cite this file and no other of this folder.
 -- Assumes nothing.
-use Rattle.scgi.specs.Claims.{MoreBytesKeepAnswer, UsedWithin, CutGivesOne, SpoolsHold, AcceptsExactly, RequestOnce, WritesExactly, RoomIsLast, WriteThenRead, ReadThenWrite, LookupFindsValue, WellFormedHeaded, HeadersFew, HeadersProper, PlacesInside, NumbersHold, LargestRequest}
+use Rattle.scgi.specs.Claims.{MoreBytesKeepAnswer, UsedWithin, CutGivesOne, SpoolsHold, AcceptsExactly, RequestOnce, WritesExactly, RoomIsLast, WriteThenRead, ReadThenWrite, NumbersHold, LargestRequest}
 use Rattle.scgi.proofs.Reader as Reader
 use Rattle.scgi.proofs.Requests as Requests
 use Rattle.scgi.proofs.Writer as Writer
-use Rattle.scgi.proofs.Lookups as Lookups
 use Rattle.scgi.proofs.Numbers as Numbers
 use Rattle.scgi.proofs.Limits as Limits
 
@@ -37,21 +36,6 @@ write-then-read = Writer.write-then-read
 
 pub read-then-write : ReadThenWrite
 read-then-write = Writer.read-then-write
-
-pub lookup-finds-value : LookupFindsValue
-lookup-finds-value = Lookups.value-found
-
-pub well-formed-headed : WellFormedHeaded
-well-formed-headed = Lookups.well-formed-headed
-
-pub headers-few : HeadersFew
-headers-few = Lookups.headers-few
-
-pub headers-proper : HeadersProper
-headers-proper = Lookups.headers-proper
-
-pub places-inside : PlacesInside
-places-inside = record { of-one = Lookups.place-fits; of-first = Lookups.first-fits; of-second = Lookups.second-fits }
 
 pub numbers-hold : NumbersHold
 numbers-hold = Numbers.numbers-hold

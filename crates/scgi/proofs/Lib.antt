@@ -1,9 +1,4 @@
 pub mod Lengths
-pub mod Blocks
-pub mod Walks
-pub mod Lookups
-pub mod Shorter
-pub mod NamePlaces
 pub mod CheckSteps
 pub mod Checks
 pub mod Reader

@@ -1,10 +1,9 @@
--- Which numbers the reader, the writer and lookup can give.
+-- Which numbers the reader and the writer can give.
 -- Assumes nothing.
 use Prim.Native.Nat.{ℕ, _+_, _*_, _-_}
 use mathlib.Core.Path.{_≡_, refl}
 use mathlib.Core.Bool.{Bool, true, false, cond, not, _&&_}
 use mathlib.Core.List.{List, [], _∷_}
-use mathlib.Core.Option.{Option, none, some}
 use lib.Dec.{eqb, leb, ltb}
 use lib.ListN.{length, getD, take, drop}
 use Rattle.octets.specs.Text.{bytes}
@@ -14,10 +13,8 @@ use Rattle.octets.specs.Compare.{sameBytes}
 use Rattle.octets.specs.Lists.{different}
 use Rattle.octets.specs.Decimal.{numberOf}
 use Rattle.octets.proofs.Refusals.{Refuses, with-number, not-refused, number-of, refuses-then, refuses-need, refuses-given}
-use Rattle.scgi.specs.Block.{Header, names, headersOf}
+use Rattle.headers.specs.Block.{Header, names, headersOf}
 use Rattle.scgi.specs.Grammar.{scgi1}
-use Rattle.scgi.specs.Lookup.{Part, placeIn, lookupOf}
-use Rattle.scgi.specs.Setting.{firstOf, settingOf}
 use Rattle.scgi.specs.Check.{statedBy, has, checkBlock}
 use Rattle.scgi.specs.Netstring.{NetLength, lengthFrom}
 use Rattle.scgi.specs.Read.{readOf}
@@ -75,24 +72,5 @@ write-numbers block body room n e =
     (λ w. refuses-need (leb (length w) room) 21 refl not-refused))
     e
 
-lookup-five : (block name : List ℕ) (n : ℕ) → lookupOf block name ≡ refused n → n ≡ 5
-unfolding lookupOf
-lookup-five block name n e = by (headersOf block) e
-  where
-    by : (o : Option (List Header)) → then (given o 5) (λ hs. gives (placeIn name 0 hs)) ≡ refused n → n ≡ 5
-    by none e = cc
-    by (some hs) e = cc
-
-setting-five : (first second name : List ℕ) (n : ℕ) → settingOf first second name ≡ refused n → n ≡ 5
-unfolding settingOf
-setting-five first second name n e = by (lookupOf first name) (lookupOf second name) (lookup-five first name n) (lookup-five second name n) e
-  where
-    by :
-        (f s : Outcome (Option Part)) → (f ≡ refused n → n ≡ 5) → (s ≡ refused n → n ≡ 5)
-        → then f (λ f. then s (λ s. gives (firstOf f s))) ≡ refused n → n ≡ 5
-    by (refused m) s h k e = h cc
-    by (gives p) (refused m) h k e = k cc
-    by (gives p) (gives q) h k e = cc
-
 pub numbers-hold : NumbersHold
-numbers-hold = record { reader = read-numbers; writer = write-numbers; lookup = lookup-five; setting = setting-five }
+numbers-hold = record { reader = read-numbers; writer = write-numbers }

@@ -12,14 +12,14 @@ use lib.Seq.{length-take-le, take-append-seam, drop-append-seam, drop-append-add
 use borrow.Author.Tests.{lt-ltb, eq-eqb, le-leb}
 use Rattle.octets.specs.Outcome.{gives}
 use Rattle.octets.specs.Decimal.{decimal}
-use Rattle.scgi.specs.Block.{Header, printed, headersOf}
+use Rattle.headers.specs.Block.{Header, printed, headersOf}
 use Rattle.scgi.specs.Grammar.{netstring, encoded, IsRequest}
 use Rattle.scgi.specs.Check.{checkBlock}
 use Rattle.scgi.specs.Netstring.{NetLength}
 use Rattle.scgi.specs.Read.{Places, placesAt, readOf, blockIn, bodyIn}
 use Rattle.scgi.specs.Claims.{placesOf, Accepted, AcceptsExactly, RequestOnce}
 use Rattle.scgi.proofs.Lengths.{lengthAt, read-decimal, written}
-use Rattle.scgi.proofs.Blocks.{read-printed}
+use Rattle.headers.proofs.Blocks.{read-printed}
 use Rattle.scgi.proofs.Checks.{check-request, Requested, checked-request}
 use Rattle.scgi.proofs.Reader.{links}
 

@@ -12,7 +12,7 @@ use Rattle.octets.specs.Kinds.{isDigit}
 use Rattle.octets.specs.Compare.{sameBytes}
 use Rattle.octets.specs.Lists.{isIn, different}
 use Rattle.octets.specs.Decimal.{numberFrom, numberOf, digitsIn}
-use Rattle.scgi.specs.Block.{Header, printed, paired}
+use Rattle.headers.specs.Block.{Header, printed, paired}
 use Rattle.octets.specs.Parts.{parted}
 use Rattle.scgi.specs.Check.{has, checkBlock}
 use Rattle.scgi.specs.Netstring.{lengthFrom}

@@ -9,7 +9,7 @@ use lib.ListN.{length, take}
 use borrow.Author.Tests.{eq-eqb, le-leb, leb-true, eqb-true}
 use Rattle.octets.specs.Outcome.{refused, gives}
 use Rattle.octets.proofs.Outcomes.{need-gives, then-gives}
-use Rattle.scgi.specs.Block.{Header, printed}
+use Rattle.headers.specs.Block.{Header, printed}
 use Rattle.scgi.specs.Grammar.{netstring, encoded, IsRequest}
 use Rattle.scgi.specs.Check.{checkBlock}
 use Rattle.scgi.specs.Read.{Places, blockIn, bodyIn}

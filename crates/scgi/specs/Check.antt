@@ -10,7 +10,7 @@ use Rattle.octets.specs.Outcome.{Outcome, refused, gives, then, need, given}
 use Rattle.octets.specs.Compare.{sameBytes}
 use Rattle.octets.specs.Lists.{different}
 use Rattle.octets.specs.Decimal.{numberOf, cap}
-use Rattle.scgi.specs.Block.{Header, names, parsed}
+use Rattle.headers.specs.Block.{Header, names, parsed}
 use Rattle.scgi.specs.Grammar.{scgi1}
 use Rattle.scgi.specs.declared.check.Stated.{Stated}
 use Rattle.scgi.specs.declared.check.Stated.the-variants.{Length, Refused as StatedRefused}

@@ -1,23 +1,19 @@
 -- What is claimed of the reader and the writer of SCGI requests.
 -- Assumes nothing.
-use Prim.Native.Nat.{ℕ, _+_, _*_, _≤_, _<_}
+use Prim.Native.Nat.{ℕ, _+_, _≤_, _<_}
 use mathlib.Core.Path.{_≡_}
 use mathlib.Core.Bool.{true, cond}
 use mathlib.Core.Logic.{_↔_}
 use mathlib.Core.List.{List, [], _∷_, _++_}
-use mathlib.Core.Option.{Option, some}
 use lib.Dec.{leb}
 use lib.ListN.{length, take}
 use Rattle.octets.specs.Outcome.{refused, gives, then}
 use Rattle.octets.specs.Kinds.{oneOf}
 use Rattle.octets.specs.Decimal.{decimal}
-use Rattle.octets.specs.Lists.{All}
 use Rattle.framing.specs.Claims.{Frames, SpoolsEqual, SpoolCut, SpoolGoesOn}
-use Rattle.scgi.specs.Block.{Header, printed, parsed, wellFormed}
-use Rattle.scgi.specs.Grammar.{netstring, encoded, Proper, IsRequest}
-use Rattle.scgi.specs.Lookup.{Part, partOption, valueIn, lookupOf}
+use Rattle.headers.specs.Block.{Header, printed}
+use Rattle.scgi.specs.Grammar.{netstring, encoded, IsRequest}
 use Rattle.scgi.specs.Read.{Places, readOf, usedOf, blockIn, bodyIn}
-use Rattle.scgi.specs.Setting.{in-first, in-second, settingOf}
 use Rattle.scgi.specs.Window.{largest}
 use Rattle.scgi.specs.Write.{toWrite, inRoom, writeOf}
 
@@ -109,36 +105,6 @@ ReadThenWrite =
     (s : List ℕ) (p : Places) (room : ℕ) → readOf s ≡ gives p
     → writeOf (blockIn s p) (bodyIn s p) room ≡ cond (leb (p .used) room) (gives (take (p .used) s)) (refused 21)
 
--- "Looking up a name hands back the value as that part of the caller's block": the bytes at the place that is given are the value of the first
--- header with that name, and there is a place exactly where there is such a header
-abbrev pub LookupFindsValue : Type 0
-LookupFindsValue =
-    (block name : List ℕ) (hs : List Header) (o : Option Part) → parsed block ≡ gives hs → lookupOf block name ≡ gives o
-    → partOption block o ≡ valueIn name hs
-
--- the headers of a block
-pub record Headed (block : List ℕ) : Type 0 where
-  pub hs : List Header
-  pub is : parsed block ≡ gives hs
-
--- a block is well formed exactly where it has headers, be they none
-abbrev pub WellFormedHeaded : Type 0
-WellFormedHeaded = (block : List ℕ) → (wellFormed block ≡ true) ↔ Headed block
-
--- a header takes a byte of name and two NULs at least
-abbrev pub HeadersFew : Type 0
-HeadersFew = (block : List ℕ) (hs : List Header) → parsed block ≡ gives hs → 3 * length hs ≤ length block
-
--- the headers of a block are those of the grammar, "name ::= notnull+, value ::= notnull*"
-abbrev pub HeadersProper : Type 0
-HeadersProper = (block : List ℕ) (hs : List Header) → parsed block ≡ gives hs → All Proper hs
-
--- a place that is given lies in its block
-pub record PlacesInside : Type 0 where
-  pub of-one : (block name : List ℕ) (p : Part) → lookupOf block name ≡ gives (some p) → p .start + p .len ≤ length block
-  pub of-first : (first second name : List ℕ) (p : Part) → settingOf first second name ≡ gives (in-first p) → p .start + p .len ≤ length first
-  pub of-second : (first second name : List ℕ) (p : Part) → settingOf first second name ≡ gives (in-second p) → p .start + p .len ≤ length second
-
 -- the reader's numbers: 1, 2, 3, then 4, "and over the whole block 5, 6, 7, 8, 9, 10"; none is 0
 abbrev pub readNumbers : List ℕ
 readNumbers = 1 ∷ 2 ∷ 3 ∷ 4 ∷ 5 ∷ 6 ∷ 7 ∷ 8 ∷ 9 ∷ 10 ∷ []
@@ -147,10 +113,7 @@ readNumbers = 1 ∷ 2 ∷ 3 ∷ 4 ∷ 5 ∷ 6 ∷ 7 ∷ 8 ∷ 9 ∷ 10 ∷ []
 abbrev pub writeNumbers : List ℕ
 writeNumbers = 3 ∷ 5 ∷ 6 ∷ 7 ∷ 8 ∷ 9 ∷ 10 ∷ 23 ∷ 21 ∷ []
 
--- no other number is given: "Every refusal returns its number and nothing else"; of lookup, "Only a malformed block, either one of two, is refused,
--- with 5"
+-- no other number is given: "Every refusal returns its number and nothing else"
 pub record NumbersHold : Type 0 where
   pub reader : (s : List ℕ) (n : ℕ) → readOf s ≡ refused n → oneOf readNumbers n ≡ true
   pub writer : (block body : List ℕ) (room n : ℕ) → writeOf block body room ≡ refused n → oneOf writeNumbers n ≡ true
-  pub lookup : (block name : List ℕ) (n : ℕ) → lookupOf block name ≡ refused n → n ≡ 5
-  pub setting : (first second name : List ℕ) (n : ℕ) → settingOf first second name ≡ refused n → n ≡ 5

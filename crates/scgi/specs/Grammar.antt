@@ -2,13 +2,12 @@
 -- Assumes nothing.
 use Prim.Native.Nat.{ℕ, _≤_}
 use mathlib.Core.Path.{_≡_}
-use mathlib.Core.Bool.{false}
 use mathlib.Core.List.{List, [], _∷_, _++_}
 use lib.ListN.{length}
 use Rattle.octets.specs.Text.{bytes}
-use Rattle.octets.specs.Lists.{All, NoNul, isNil, Different}
+use Rattle.octets.specs.Lists.{All, Different}
 use Rattle.octets.specs.Decimal.{decimal, Says}
-use Rattle.scgi.specs.Block.{Header, names, printed}
+use Rattle.headers.specs.Block.{Header, Proper, Among, names, printed}
 
 -- "A request is a block as netstring, then the body": the length in decimal, `:` (58), the bytes, `,` (44)
 abbrev pub netstring : List ℕ → List ℕ
@@ -18,21 +17,10 @@ netstring b = decimal (length b) ++ 58 ∷ (b ++ 44 ∷ [])
 abbrev pub encoded : List Header → List ℕ → List ℕ
 encoded hs body = netstring (printed hs) ++ body
 
--- "names are not empty, values may be". Source document 001: "name ::= notnull+, value ::= notnull*"
-pub record Proper (h : Header) : Type 0 where
-  pub named : isNil (h .name) ≡ false
-  pub name-bytes : NoNul (h .name)
-  pub value-bytes : NoNul (h .value)
-
 -- the headers state a body of n bytes. Source document 001: "The first header must have the name CONTENT_LENGTH and a value that is a nonempty
 -- sequence of ASCII digits"; "CONTENT_LENGTH may have leading zeros"
 pub data States (n : ℕ) : List Header → Type 0 where
   first : {h : Header} {hs : List Header} → h .name ≡ bytes "CONTENT_LENGTH" → Says n (h .value) → States n (h ∷ hs)
-
--- x is one of the headers
-pub data Among (x : Header) : List Header → Type 0 where
-  here : {hs : List Header} → Among x (x ∷ hs)
-  later : {h : Header} {hs : List Header} → Among x hs → Among x (h ∷ hs)
 
 -- source document 001: "There must also always be a header with the name SCGI and a value of 1"
 abbrev pub scgi1 : Header

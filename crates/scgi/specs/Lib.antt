@@ -1,8 +1,4 @@
-pub mod Block
 pub mod Grammar
-pub mod Lookup
-pub mod Setting
-pub mod Names
 pub mod Check
 pub mod Netstring
 pub mod Read

@@ -12,7 +12,7 @@ use Rattle.octets.specs.Decimal.{decimal}
 use Rattle.targets.specs.Target.{queryOf}
 use Rattle.http.specs.RequestLine.{versionText}
 use Rattle.http.specs.Fields.{fieldsAt}
-use Rattle.scgi.specs.Block.{printed}
+use Rattle.headers.specs.Block.{printed}
 use Rattle.lent.specs.Places.{factAt, valueAt, authAt, settingsAt, isGiven, authTypeAt, remoteUserAt}
 use Rattle.lent.specs.declared.places.AuthPlaces.{AuthPlaces}
 use Rattle.lent.specs.declared.places.AuthPlaces.the-variants.{Given, Absent}

@@ -17,7 +17,7 @@ use Rattle.octets.proofs.Compares.{same-true}
 use Rattle.octets.proofs.Names.{in-either}
 use Rattle.octets.proofs.Cases.{upper-lower, lower-eqb}
 use Rattle.octets.proofs.Copies.{first-then, over-nil}
-use Rattle.scgi.specs.Block.{Header, printed}
+use Rattle.headers.specs.Block.{Header, printed}
 use Rattle.http.specs.Fields.{Field, fieldAt, fieldsAt}
 use Rattle.http.proofs.Places.{fields-next, fields-end}
 use Rattle.request.specs.Named.{lowered}

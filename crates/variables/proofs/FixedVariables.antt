@@ -9,7 +9,7 @@ use lib.ListN.{length}
 use Rattle.octets.specs.Text.{bytes}
 use Rattle.octets.specs.Decimal.{decimal}
 use Rattle.targets.specs.Target.{queryOf}
-use Rattle.scgi.specs.Block.{Header, printed}
+use Rattle.headers.specs.Block.{Header, printed}
 use Rattle.lent.specs.Settings.{Auth, Settings}
 use Rattle.lent.specs.Mounts.{Route}
 use Rattle.variables.specs.Meaning.{Meaning}

@@ -13,7 +13,7 @@ use Rattle.octets.specs.Compare.{sameBytes}
 use Rattle.octets.specs.Lists.{All, no-more, _&_, isIn, different}
 use Rattle.octets.proofs.Bools.{and-left, and-right}
 use Rattle.octets.proofs.Names.{different-append}
-use Rattle.scgi.specs.Block.{Header, names}
+use Rattle.headers.specs.Block.{Header, names}
 use Rattle.http.specs.Fields.{Field}
 use Rattle.lent.specs.Settings.{Auth, Settings}
 use Rattle.lent.specs.Mounts.{Route}

@@ -14,9 +14,8 @@ use Rattle.octets.specs.Decimal.{decimal}
 use Rattle.octets.specs.Lists.{All, no-more, _&_, NoNul, isNil}
 use Rattle.octets.proofs.Alls.{cut-length, hasNoNul, no-nul, all-append, all-map, all-without}
 use Rattle.octets.proofs.Decimals.{decimal-digits}
-use Rattle.scgi.specs.Block.{Header}
-use Rattle.scgi.specs.Grammar.{Proper}
-use Rattle.scgi.specs.Lookup.{valueIn}
+use Rattle.headers.specs.Block.{Header, Proper}
+use Rattle.headers.specs.Lookup.{valueIn}
 use Rattle.http.specs.Fields.{Field}
 use Rattle.targets.specs.Target.{queryOf}
 use Rattle.lent.specs.Settings.{Auth, Settings}

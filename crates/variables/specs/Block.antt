@@ -3,7 +3,7 @@
 use Prim.Native.Nat.{ℕ, _≤_}
 use mathlib.Core.List.{List}
 use lib.ListN.{length, take, drop}
-use Rattle.scgi.specs.Block.{printed}
+use Rattle.headers.specs.Block.{printed}
 use Rattle.lent.specs.Mounts.{Route}
 use Rattle.lent.specs.Places.{settingsAt, SettingsInside}
 use Rattle.lent.specs.declared.places.SettingPlaces.{SettingPlaces}

@@ -10,7 +10,7 @@ use lib.ListN.{length}
 use Rattle.octets.specs.Text.{bytes}
 use Rattle.octets.specs.Compare.{upperOf}
 use Rattle.octets.specs.Decimal.{decimal}
-use Rattle.scgi.specs.Block.{Header}
+use Rattle.headers.specs.Block.{Header}
 use Rattle.http.specs.Fields.{Field}
 use Rattle.targets.specs.Target.{queryOf}
 use Rattle.lent.specs.Settings.{Auth, Settings}

@@ -7,7 +7,7 @@ ghost use lib.ListN.{length, take, drop};
 ghost use Rattle.octets.specs.Text.{bytes};
 ghost use Rattle.octets.specs.Compare.{lowerOf};
 ghost use Rattle.octets.specs.Lists.{isIn, different};
-ghost use Rattle.scgi.specs.Block.{printed};
+ghost use Rattle.headers.specs.Block.{printed};
 ghost use Rattle.http.specs.Fields.{fieldAt, fieldsAt, Inside, AllInside};
 ghost use Rattle.variables.specs.Fields.{notPassed, addedBy, groupedOf};
 ghost use Rattle.variables.specs.Variables.{variableByte, httpName, httpVariable};

@@ -1,11 +1,11 @@
 // The SCGI reader, writer and lookups.
 use crate::print;
-use scgi::lookup::Place;
-use scgi::lookup::find;
+use headers::lookup::Place;
+use headers::lookup::find;
+use headers::setting::Where;
+use headers::setting::find_setting;
 use scgi::read::Reading;
 use scgi::read::read;
-use scgi::setting::Where;
-use scgi::setting::find_setting;
 use scgi::write::Writing;
 use scgi::write::write;
 

@@ -2,7 +2,7 @@
 -- Assumes nothing.
 use mathlib.Core.Path.{sym, ap, _∙_}
 use borrow.Author.Needs.{needs}
-use Rattle.scgi.specs.Lookup.{placeOutcome}
+use Rattle.headers.specs.Lookup.{placeOutcome}
 use Rattle.capi.specs.Find.{partNumbers}
 use Rattle.capi.proofs.Answers.{refusal, gave}
 use Rattle.capi.proofs.find.oy_scgi_find.Statement.{statement}

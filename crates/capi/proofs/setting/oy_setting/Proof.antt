@@ -2,7 +2,7 @@
 -- Assumes nothing.
 use mathlib.Core.Path.{sym, ap, _∙_}
 use borrow.Author.Needs.{needs}
-use Rattle.scgi.specs.Setting.{settingOutcome}
+use Rattle.headers.specs.Setting.{settingOutcome}
 use Rattle.capi.specs.Setting.{heldNumbers}
 use Rattle.capi.proofs.Answers.{refusal, gave}
 use Rattle.capi.proofs.setting.oy_setting.Statement.{statement}

@@ -7,7 +7,7 @@ use lib.ListN.{length, take, drop, length-take}
 use lib.Seq.{length-take-le}
 use Rattle.octets.proofs.Lists.{part}
 use Rattle.lent.specs.Search.{mountOutcome}
-use Rattle.scgi.specs.Block.{parsed}
+use Rattle.headers.specs.Block.{parsed}
 use Rattle.lent.specs.Mounts.{routeOf}
 use Rattle.lent.specs.Places.{settingsAt}
 use Rattle.variables.specs.Meaning.{meaningOf}

@@ -5,7 +5,7 @@ use mathlib.Core.Path.{sym, _∙_}
 use native.Mathlib.Omega.{arith}
 use lib.ListN.{length, length-take}
 use lib.Seq.{length-take-le}
-use Rattle.scgi.specs.Block.{parsed}
+use Rattle.headers.specs.Block.{parsed}
 use Rattle.lent.specs.Places.{settingsAt}
 use Rattle.gateway.specs.Stepping.{headFrom, roomFor}
 use Rattle.gateway.proofs.StepParts.{left-alone, head-refused, head-read}

@@ -2,7 +2,7 @@
 -- Assumes nothing.
 use mathlib.Core.Path.{sym, ap, _∙_}
 use lib.ListN.{length}
-use Rattle.scgi.proofs.Claims.{well-formed-headed}
+use Rattle.headers.proofs.Claims.{well-formed-headed}
 use Rattle.http.specs.Head.{headOutcome}
 use Rattle.http.proofs.Heads.{head-within}
 use Rattle.lent.specs.Places.{settingsAt}

@@ -8,8 +8,8 @@ use borrow.Author.Needs.{needs}
 use Rattle.lent.proofs.BlockSteps.{Walk, start, Step, step, always-header, no-more, other-first, slash-last, no-pool, is-mount}
 use Rattle.lent.proofs.blocks.all_mounts.Statement.{statement}
 use Rattle.lent.proofs.blocks.all_mounts.Tie as tie
-use Rattle.scgi.specs.Block.{headerIn, HeaderFound}
-use Rattle.scgi.specs.declared.block.HeaderPlace.the-variants.{At}
+use Rattle.headers.specs.Block.{headerIn, HeaderFound}
+use Rattle.headers.specs.declared.block.HeaderPlace.the-variants.{At}
 
 abbrev Inv-loop : tie.InvT-loop
 Inv-loop block i₀ i = (i ≤ length block) × Walk block i

@@ -6,7 +6,7 @@ use Rattle.lent.proofs.BlockSteps.{too-long, malformed, few-names, bloc
 use Rattle.lent.proofs.blocks.is_block.Statement.{statement}
 use Rattle.lent.proofs.blocks.is_block.Tie as tie
 use Rattle.octets.specs.Outcome.{gives}
-use Rattle.scgi.specs.Block.{countOutcome, countOf}
+use Rattle.headers.specs.Block.{countOutcome, countOf}
 
 -- the headers, where the pattern matched
 count : (c : tie.After-known-told) → countOf (c .before .before .before .before .before .before .args .block .now) ≡ gives (c .before .c .given .0 .0)

@@ -9,8 +9,8 @@ use Rattle.lent.proofs.BlockSteps.{long-mounts, malformed-mounts, many-
 use Rattle.lent.proofs.blocks.is_mounts.Statement.{statement}
 use Rattle.lent.proofs.blocks.is_mounts.Tie as tie
 use Rattle.octets.specs.Outcome.{gives}
-use Rattle.scgi.specs.Block.{countOutcome, countOf}
-use Rattle.scgi.proofs.Claims.{well-formed-headed}
+use Rattle.headers.specs.Block.{countOutcome, countOf}
+use Rattle.headers.proofs.Claims.{well-formed-headed}
 
 -- the headers, where the pattern matched
 count : (c : tie.After-known-told) → countOf (c .before .before .before .before .before .before .args .block .now) ≡ gives (c .before .c .given .0 .0)

@@ -7,7 +7,7 @@ use Rattle.lent.proofs.CheckSteps.{wrong-facts, wrong-site, wrong-mount
 use Rattle.lent.proofs.check.check.Statement.{statement}
 use Rattle.lent.proofs.check.check.Tie as tie
 use Rattle.lent.specs.Lent.{blockOf, mountsOf}
-use Rattle.scgi.specs.Block.{parsed}
+use Rattle.headers.specs.Block.{parsed}
 
 -- the blocks, where their tests passed
 facts-good : (c : tie.Else1) → (let b = c .before .before .before .before .before .args .facts .now in parsed b ≡ blockOf 1024 b)

@@ -16,8 +16,8 @@ use Rattle.lent.proofs.search.+search.Lts-search as search-lts
 use Rattle.lent.proofs.search.last_slash.Reads as last-slash-reads
 use Rattle.lent.proofs.Searches.{front-shorter, path-is-mount, always-looked, no-mount, shorter-path}
 use Rattle.lent.specs.Mounts.{slashPart}
-use Rattle.scgi.proofs.lookup.seek.Reads as seek-reads
-use Rattle.scgi.specs.Lookup.{placeOutcome}
+use Rattle.headers.proofs.lookup.seek.Reads as seek-reads
+use Rattle.headers.specs.Lookup.{placeOutcome}
 use Rattle.lent.proofs.search.+search.{statement}
 use Rattle.lent.proofs.search.+search.Tie.{close}
 

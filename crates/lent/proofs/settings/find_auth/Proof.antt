@@ -7,7 +7,7 @@ use Rattle.lent.proofs.Searches.{always-looked}
 use Rattle.lent.proofs.SettingSteps.{no-auth, user-alone, type-alone, empty-type, empty-user, is-auth}
 use Rattle.octets.specs.Outcome.{gives}
 use Rattle.octets.specs.Text.{bytes}
-use Rattle.scgi.specs.Lookup.{placeOutcome, lookupOf}
+use Rattle.headers.specs.Lookup.{placeOutcome, lookupOf}
 use borrow.Author.Needs.{needs}
 use Rattle.lent.proofs.settings.find_auth.Statement.{statement}
 use Rattle.lent.proofs.settings.find_auth.Tie as tie

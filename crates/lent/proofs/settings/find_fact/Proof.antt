@@ -4,7 +4,7 @@ use mathlib.Core.Path.{_≡_, sym, ap, _∙_}
 use mathlib.Core.Option.{some}
 use Rattle.lent.proofs.SettingSteps.{no-fact, empty-fact, is-fact}
 use Rattle.octets.specs.Outcome.{gives}
-use Rattle.scgi.specs.Lookup.{placeOutcome, lookupOf}
+use Rattle.headers.specs.Lookup.{placeOutcome, lookupOf}
 use borrow.Author.Needs.{needs}
 use Rattle.lent.proofs.settings.find_fact.Statement.{statement}
 use Rattle.lent.proofs.settings.find_fact.Tie as tie

@@ -3,7 +3,7 @@
 use mathlib.Core.Path.{sym, ap, _∙_}
 use Prim.{absurd}
 use Rattle.lent.proofs.SettingSteps.{always-sought, no-value, first-value, second-value}
-use Rattle.scgi.specs.Setting.{settingOutcome}
+use Rattle.headers.specs.Setting.{settingOutcome}
 use borrow.Author.Needs.{needs}
 use Rattle.lent.proofs.settings.find_value.Statement.{statement}
 use Rattle.lent.proofs.settings.find_value.Tie as tie

@@ -7,11 +7,11 @@ use borrow.Author.Needs.{needs}
 use borrow.Author.Tests.{not-true, not-false}
 use Rattle.octets.specs.Outcome.{gives}
 use Rattle.scgi.proofs.CheckSteps.{equal-names, other-names}
-use Rattle.scgi.proofs.Lookups.{count-refused}
-use Rattle.scgi.proofs.NamePlaces.{kept}
+use Rattle.headers.proofs.Lookups.{count-refused}
+use Rattle.headers.proofs.NamePlaces.{kept}
 use Rattle.scgi.proofs.check.check_block.Statement.{statement}
 use Rattle.scgi.proofs.check.check_block.Tie as tie
-use Rattle.scgi.specs.Block.{countOf}
+use Rattle.headers.specs.Block.{countOf}
 use Rattle.scgi.specs.Check.{checkBlock}
 
 -- the headers, where their names are stored

@@ -5,10 +5,10 @@ use borrow.Author.Needs.{needs}
 use borrow.Author.Tests.{not-true, not-false}
 use Rattle.octets.specs.Outcome.{gives}
 use Rattle.scgi.proofs.CheckSteps.{too-many, equal-names, other-names}
-use Rattle.scgi.proofs.Lookups.{count-refused}
+use Rattle.headers.proofs.Lookups.{count-refused}
 use Rattle.scgi.proofs.check.check_large.Statement.{statement}
 use Rattle.scgi.proofs.check.check_large.Tie as tie
-use Rattle.scgi.specs.Block.{countOutcome, countOf}
+use Rattle.headers.specs.Block.{countOutcome, countOf}
 use Rattle.scgi.specs.Check.{checkBlock}
 
 -- the headers, where the pattern matched

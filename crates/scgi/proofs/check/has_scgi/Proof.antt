@@ -10,10 +10,10 @@ use Rattle.octets.specs.Compare.{sameBytes}
 use Rattle.octets.specs.Outcome.{gives}
 use Rattle.octets.specs.Text.{bytes}
 use Rattle.scgi.proofs.CheckSteps.{differ-well, scgi-at}
-use Rattle.scgi.proofs.Lookups.{place-fits, found-or-absent}
+use Rattle.headers.proofs.Lookups.{place-fits, found-or-absent}
 use Rattle.scgi.proofs.check.has_scgi.Statement.{statement}
 use Rattle.scgi.proofs.check.has_scgi.Tie as tie
-use Rattle.scgi.specs.Lookup.{placeOutcome, lookupOf}
+use Rattle.headers.specs.Lookup.{placeOutcome, lookupOf}
 
 -- the place, where the pattern matched
 got :

@@ -9,13 +9,13 @@ use borrow.Author.Tests.{not-true, not-false}
 use Rattle.octets.specs.Decimal.{numberRead}
 use Rattle.octets.specs.Outcome.{given}
 use Rattle.scgi.proofs.CheckSteps.{states-none, states-first, firstStates}
-use Rattle.scgi.proofs.Lookups.{well}
-use Rattle.scgi.proofs.Walks.{never-refused}
+use Rattle.headers.proofs.Lookups.{well}
+use Rattle.headers.proofs.Walks.{never-refused}
 use Rattle.scgi.proofs.check.stated_length.Statement.{statement}
 use Rattle.scgi.proofs.check.stated_length.Tie as tie
-use Rattle.scgi.specs.Block.{HeaderFound}
+use Rattle.headers.specs.Block.{HeaderFound}
 use Rattle.scgi.specs.Check.{statedIn}
-use Rattle.scgi.specs.declared.block.HeaderPlace.the-variants.{At}
+use Rattle.headers.specs.declared.block.HeaderPlace.the-variants.{At}
 
 -- the first header
 found : (c : tie.After-known-told) → HeaderFound (c .before .before .before .before .before .before .args .block .now) 0 (At (c .before .h .given .0 .0) (c .before .h .given .0 .1 .0))

@@ -11,7 +11,7 @@ use Rattle.variables.specs.Put.{ifThere, PutDone}
 use Rattle.variables.specs.Variables.{httpVariable}
 use Rattle.variables.specs.declared.put.Put.the-variants.{At}
 use Rattle.http.specs.Fields.{fieldsAt}
-use Rattle.scgi.specs.Block.{printed}
+use Rattle.headers.specs.Block.{printed}
 use borrow.Author.Needs.{needs}
 use lib.ListN.{length}
 use mathlib.Core.List.{map}

@@ -1,0 +1,23 @@
+-- Each claim of specs/Claims.antt, proved.
+-- Assumes nothing.
+use Rattle.headers.specs.Claims.{LookupFindsValue, WellFormedHeaded, HeadersFew, HeadersProper, PlacesInside, NumbersHold}
+use Rattle.headers.proofs.Lookups as Lookups
+use Rattle.headers.proofs.Numbers as Numbers
+
+pub lookup-finds-value : LookupFindsValue
+lookup-finds-value = Lookups.value-found
+
+pub well-formed-headed : WellFormedHeaded
+well-formed-headed = Lookups.well-formed-headed
+
+pub headers-few : HeadersFew
+headers-few = Lookups.headers-few
+
+pub headers-proper : HeadersProper
+headers-proper = Lookups.headers-proper
+
+pub places-inside : PlacesInside
+places-inside = record { of-one = Lookups.place-fits; of-first = Lookups.first-fits; of-second = Lookups.second-fits }
+
+pub numbers-hold : NumbersHold
+numbers-hold = Numbers.numbers-hold

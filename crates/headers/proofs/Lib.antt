@@ -1,0 +1,7 @@
+pub mod Blocks
+pub mod Walks
+pub mod Lookups
+pub mod Shorter
+pub mod NamePlaces
+pub mod Numbers
+pub mod Claims

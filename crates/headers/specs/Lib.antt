@@ -1,0 +1,5 @@
+pub mod Block
+pub mod Lookup
+pub mod Setting
+pub mod Names
+pub mod Claims

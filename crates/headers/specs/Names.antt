@@ -1,0 +1,53 @@
+-- The names of a block by numbers: two for each header, where its name starts and how long it is.
+-- Assumes nothing.
+use Prim.Native.Nat.{ℕ, zero, suc, _+_, _*_, _≤_, _<_}
+use mathlib.Core.Path.{_≡_}
+use mathlib.Core.List.{List, [], _∷_}
+use lib.ListN.{length, take, drop, getD}
+use Rattle.octets.specs.Outcome.{refused, gives}
+use Rattle.octets.specs.Copy.{over}
+use Rattle.headers.specs.Block.{Header, parsed, countOf}
+use Rattle.headers.specs.declared.names.Stored.{Stored}
+use Rattle.headers.specs.declared.names.Stored.the-variants.{Headers, Full, Refused}
+
+-- the numbers of headers that are printed from i on
+unfoldable pub namePlaces : ℕ → List Header → List ℕ
+namePlaces i [] = []
+namePlaces i (h ∷ hs) = i ∷ (length (h .name) ∷ namePlaces (i + length (h .name) + 1 + length (h .value) + 1) hs)
+
+-- the list after is the list before with the numbers of the block's headers over its front
+abbrev pub NamesStored : List ℕ → List ℕ → List ℕ → Type 0
+NamesStored b before after = (hs : List Header) → parsed b ≡ gives hs → after ≡ over before 0 (namePlaces 0 hs)
+
+-- the numbers of the block's n headers were stored in the list
+pub record NamesKept (b ps : List ℕ) (n : ℕ) : Type 0 where
+  pub count : countOf b ≡ gives n
+  pub room : 2 * n ≤ length ps
+  pub before : List ℕ
+  pub stored : NamesStored b before ps
+
+-- what the code's answer says: a list that is full has less room than the headers of a well formed block take
+abbrev pub FoundBy : List ℕ → List ℕ → List ℕ → Stored → Type 0
+FoundBy b before after (Headers n) = (countOf b ≡ gives n) × (2 * n ≤ length before) × NamesStored b before after
+FoundBy b before after Full = (n : ℕ) → countOf b ≡ gives n → length before < 2 * n
+FoundBy b before after (Refused k) = countOf b ≡ refused k
+
+pub record NamesFound (b before after : List ℕ) (r : Stored) : Type 0 where
+  pub answer : FoundBy b before after r
+
+-- the name whose numbers stand from 2 * k on
+abbrev pub nameAt : List ℕ → List ℕ → ℕ → List ℕ
+nameAt b ps k = take (getD ps (2 * k + 1) 0) (drop (getD ps (2 * k) 0) b)
+
+-- n names, the first with the number k
+unfoldable pub namesAt : List ℕ → List ℕ → ℕ → ℕ → List (List ℕ)
+namesAt b ps k zero = []
+namesAt b ps k (suc n) = nameAt b ps k ∷ namesAt b ps (k + 1) n
+
+-- the name with the number k lies in the block
+abbrev pub Inside : List ℕ → List ℕ → ℕ → Type 0
+Inside b ps k = getD ps (2 * k) 0 + getD ps (2 * k + 1) 0 ≤ length b
+
+-- .. and so for the first n
+abbrev pub AllInside : List ℕ → List ℕ → ℕ → Type 0
+AllInside b ps n = (k : ℕ) → k < n → Inside b ps k
