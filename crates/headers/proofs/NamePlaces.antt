@@ -18,7 +18,7 @@ use Rattle.octets.specs.Copy.{over}
 use Rattle.octets.proofs.Outcomes.{given-gives, gives-once, then-gives, then-same}
 use Rattle.octets.proofs.Copies.{over-nil, two-stored}
 use Rattle.headers.specs.Block.{Header, names, printed, headersOf, parsed, countOf, headerIn, HeaderFound}
-use Rattle.headers.specs.Names.{namePlaces, NamesStored, NamesKept, FoundBy, NamesFound, nameAt, namesAt, Inside, AllInside}
+use Rattle.headers.specs.Names.{namePlaces, NamesStored, NamesIn, FoundBy, NamesFound, nameAt, namesAt, Inside, AllInside}
 use Rattle.headers.specs.declared.block.HeaderPlace.the-variants.{At, Refused}
 use Rattle.headers.specs.declared.names.Stored.{Stored}
 use Rattle.headers.specs.declared.names.Stored.the-variants.{Headers, Full, Refused as StoredRefused}
@@ -208,31 +208,27 @@ pub record Known (b ps : List ℕ) (n : ℕ) : Type 0 where
   pub inside : AllInside b ps n
   pub answer : then (parsed b) (λ hs. gives (different (names hs))) ≡ gives (different (namesAt b ps 0 (n - 0)))
 
-pub known : (b ps : List ℕ) (n : ℕ) → NamesKept b ps n → Known b ps n
-known b ps n w =
+pub known : (b ps : List ℕ) (n : ℕ) → NamesIn b ps n → Known b ps n
+known b ps n p =
+    let w = p .kept in
     let g = counted b n (w .count) in
-    let f = found b (w .before) ps (g .hs) (g .is) (w .stored (g .hs) (g .is)) in
+    let f = found b (p .before) ps (g .hs) (g .is) (w .stored (g .hs) (g .is)) in
     record {
       inside = λ k h. f .inside k (omega arith) (omega (arith, g .count));
       answer =
           rw (g .is) (ap (λ (ns : List (List ℕ)). gives (different ns)) (sym (f .are) ∙ ap (namesAt b ps 0) (g .count ∙ sym (sub-zero n))));
     }
 
--- What was stored, by the code's answer.
-
-module _ (b before ps : List ℕ) (n : ℕ) (l : length ps ≡ length before) (r : Stored) (f : NamesFound b before ps r) where
-  pub kept : r ≡ Headers n → NamesKept b ps n
-  kept e =
-      let w : NamesFound b before ps (Headers n) = rw e at f in
-      record { count = w .answer .0; room = omega (arith, w .answer .1); before = before; stored = w .answer .2 }
-
-  -- where there is room for the block's n headers
-  pub kept-all : countOf b ≡ gives n → 2 * n ≤ length before → NamesKept b ps n
-  kept-all e room = by r refl (f .answer)
-    where
-      by : (q : Stored) → r ≡ q → FoundBy b before ps q → NamesKept b ps n
-      by (Headers m) z w = kept (z ∙ ap Headers (gives-once m n (sym (w .0) ∙ e)))
-      by Full z w = absurd (omega (arith, w n e))
-      by (StoredRefused k) z w =
-          let q : refused k ≡ gives n = sym w ∙ e in
-          absurd (let z : _≡_ {A = ℕ} 0 1 = cc in omega arith)
+-- where there is room for the block's n headers
+pub kept-all :
+    (b before ps : List ℕ) (n : ℕ) (r : Stored) → NamesFound b before ps r → countOf b ≡ gives n → 2 * n ≤ length before → NamesIn b ps n
+kept-all b before ps n r f e room = by r (f .answer)
+  where
+    by : (q : Stored) → FoundBy b before ps q → NamesIn b ps n
+    by (Headers m) w =
+        let z : m ≡ n = gives-once m n (sym (w .count) ∙ e) in
+        record { before = before; kept = rw z at w }
+    by Full w = absurd (omega (arith, w n e))
+    by (StoredRefused k) w =
+        let q : refused k ≡ gives n = sym w ∙ e in
+        absurd (let z : _≡_ {A = ℕ} 0 1 = cc in omega arith)

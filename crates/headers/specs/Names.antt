@@ -19,16 +19,20 @@ namePlaces i (h ∷ hs) = i ∷ (length (h .name) ∷ namePlaces (i + length (h 
 abbrev pub NamesStored : List ℕ → List ℕ → List ℕ → Type 0
 NamesStored b before after = (hs : List Header) → parsed b ≡ gives hs → after ≡ over before 0 (namePlaces 0 hs)
 
--- the numbers of the block's n headers were stored in the list
-pub record NamesKept (b ps : List ℕ) (n : ℕ) : Type 0 where
+-- the block has n headers, whose numbers were stored in the list before
+pub record NamesKept (b before after : List ℕ) (n : ℕ) : Type 0 where
   pub count : countOf b ≡ gives n
-  pub room : 2 * n ≤ length ps
+  pub room : 2 * n ≤ length after
+  pub stored : NamesStored b before after
+
+-- .. whatever it was before
+pub record NamesIn (b ps : List ℕ) (n : ℕ) : Type 0 where
   pub before : List ℕ
-  pub stored : NamesStored b before ps
+  pub kept : NamesKept b before ps n
 
 -- what the code's answer says: a list that is full has less room than the headers of a well formed block take
 abbrev pub FoundBy : List ℕ → List ℕ → List ℕ → Stored → Type 0
-FoundBy b before after (Headers n) = (countOf b ≡ gives n) × (2 * n ≤ length before) × NamesStored b before after
+FoundBy b before after (Headers n) = NamesKept b before after n
 FoundBy b before after Full = (n : ℕ) → countOf b ≡ gives n → length before < 2 * n
 FoundBy b before after (Refused k) = countOf b ≡ refused k
 

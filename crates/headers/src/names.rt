@@ -5,7 +5,7 @@ ghost use lib.ListN.{length};
 ghost use Rattle.octets.specs.Outcome.{gives, then};
 ghost use Rattle.octets.specs.Lists.{isIn, different};
 ghost use Rattle.headers.specs.Block.{parsed, countOf, names};
-ghost use Rattle.headers.specs.Names.{NamesKept, NamesFound, nameAt, namesAt, Inside, AllInside};
+ghost use Rattle.headers.specs.Names.{NamesIn, NamesFound, nameAt, namesAt, Inside, AllInside};
 use crate::block::HeaderPlace;
 use crate::block::header_at;
 use octets::compare::same;
@@ -76,7 +76,7 @@ fn repeated(block: &[u8], places: &[usize], k: usize, n: usize) -> bool
 
 // Whether the names of a block of n headers, whose places were stored, differ: each pair is compared.
 pub fn stored_differ(block: &[u8], places: &[usize], n: usize) -> bool
-    requires { ⌜ NamesKept (now block) (now places) n ⌝ }
+    requires { ⌜ NamesIn (now block) (now places) n ⌝ }
     ensures { λ r. ⌜ then (parsed (now (block .entry))) (λ hs. gives (different (names hs))) ≡ gives r ⌝ }
 {
     let mut k: usize = 0;

@@ -5,11 +5,14 @@ use Prim.{absurd}
 use mathlib.Core.Path.{_≡_, refl, sym, ap, _∙_}
 use mathlib.Core.Bool.{Bool, true, false, _&&_}
 use mathlib.Core.List.{List, [], _∷_, _++_}
+use mathlib.Core.Logic.{inl, inr}
 use mathlib.Core.Option.{Option, none, some}
 use native.Mathlib.Omega.{arith}
 use lib.Dec.{eqb, leb}
 use lib.ListN.{length, take, drop, getD, length-take, length-drop, drop-of-length-le}
-use borrow.Author.Tests.{eq-eqb, ne-eqb, le-leb, lt-leb}
+use borrow.Author.Tests.{eq-eqb, ne-eqb, eqb-false, le-leb, lt-leb}
+use denote.Enum.Declared.{tagOf}
+use types.Run.{OneOf}
 use Rattle.octets.specs.Outcome.{Outcome, refused, gives, then, need, given}
 use Rattle.octets.specs.Lists.{different}
 use Rattle.octets.specs.Parts.{parted}
@@ -17,8 +20,12 @@ use Rattle.octets.proofs.Lists.{part-first, part-last, nil-empty, nil-filled}
 use Rattle.octets.proofs.Outcomes.{Gave, given-gives, then-gives}
 use Rattle.headers.specs.Block.{Header, names, headersOf, paired, parsed, wellFormed, countOf, headerIn, HeaderFound}
 use Rattle.headers.specs.Claims.{Headed}
+use Rattle.headers.specs.Names.{NamesFound}
 use Rattle.headers.specs.declared.block.HeaderPlace.the-variants.{At, Refused}
+use Rattle.headers.specs.declared.names.Stored.{Stored}
+use Rattle.headers.specs.declared.names.Stored.the-variants.{Headers, Full, Refused as StoredRefused}
 use Rattle.headers.proofs.Claims.{well-formed-headed, headers-few}
+use Rattle.headers.proofs.names.Stored.{the-type}
 use Rattle.lent.specs.Mounts.{begins}
 use Rattle.lent.specs.Lent.{blockOf, ends, isMount, allMounts, mountsOf}
 
@@ -167,11 +174,11 @@ module _ (b : List ℕ) where
   pub long-mounts : 4096 < length b → mountsOf b ≡ refused 20
   long-mounts h = rw (too-long 4096 b h)
 
-  pub malformed-mounts : (k : ℕ) → countOf b ≡ refused k → mountsOf b ≡ refused 20
+  malformed-mounts : (k : ℕ) → countOf b ≡ refused k → mountsOf b ≡ refused 20
   malformed-mounts k e = rw (malformed 4096 b k e)
 
   module _ (n : ℕ) (e : countOf b ≡ gives n) (l : length b ≤ 4096) where
-    pub many-mounts : 32 < n → mountsOf b ≡ refused 20
+    many-mounts : 32 < n → mountsOf b ≡ refused 20
     many-mounts h =
         let g = counted b n e in
         rw (short 4096 b (g .it) (g .first) l) (by (g .it) (different (names (g .it))) (lt-leb (length (g .it)) 32 (omega (arith, count b n e))))
@@ -193,6 +200,19 @@ module _ (b : List ℕ) where
         let q : gives (allMounts (g .it)) ≡ gives r = rw (g .first) at m in
         let z : allMounts (g .it) ≡ r = cc in
         rw (by-names 4096 b (g .it) (g .first) l true d, g .first) (rw (le-leb (length (g .it)) 32 (omega (arith, count b n e)), z))
+
+-- by what was stored in a list with room for 32 mounts: of others the block is malformed or has more
+pub other-mounts :
+    (b before ps : List ℕ) (r : Stored) → length b ≤ 4096 → length before ≡ 64 → NamesFound b before ps r → OneOf (1 ∷ (2 ∷ [])) (tagOf the-type r)
+    → mountsOf b ≡ refused 20
+other-mounts b before ps (Headers n) l z f (inl k) = absurd (eqb-false 0 1 refl k)
+other-mounts b before ps (Headers n) l z f (inr k) = absurd (eqb-false 0 2 refl k)
+other-mounts b before ps (StoredRefused k) l z f t = malformed-mounts b k (f .answer)
+other-mounts b before ps Full l z f t = by (countOf b) refl
+  where
+    by : (o : Outcome ℕ) → countOf b ≡ o → mountsOf b ≡ refused 20
+    by (refused k) e = malformed-mounts b k e
+    by (gives n) e = many-mounts b n e l (omega (arith, f .answer n e))
 
 -- A block that is refused or not is 20 or its headers.
 

@@ -18,10 +18,8 @@ use Rattle.octets.specs.Outcome.{Outcome, refused, gives, then, need}
 use Rattle.octets.specs.Decimal.{numberOf, cap, capped}
 use Rattle.octets.proofs.Bools.{and-false}
 use Rattle.octets.proofs.Lists.{part, nil-empty, nil-filled}
-use Rattle.octets.proofs.Outcomes.{then-gives}
 use Rattle.headers.specs.Block.{Header, parsed, wellFormed}
 use Rattle.headers.specs.Lookup.{Part, partIn, partOption, valueIn, placeOutcome, lookupOf}
-use Rattle.headers.specs.Setting.{Held, in-first, in-second, in-neither, firstOf, settingOf}
 use Rattle.headers.specs.Claims.{Headed}
 use Rattle.headers.specs.declared.lookup.Place.{Place}
 use Rattle.headers.specs.declared.lookup.Place.the-variants.{At, Absent, Refused}
@@ -29,7 +27,7 @@ use Rattle.headers.proofs.Claims.{well-formed-headed, lookup-finds-value, place
 use Rattle.headers.proofs.lookup.Place.{the-type}
 use Rattle.lent.specs.Mounts.{begins}
 use Rattle.lent.specs.Settings.{filled, orIn, sought, portNumber, isPort, portIn, authOf, settingsOf}
-use Rattle.lent.specs.Places.{valueAt, factOutcome, authOutcome, valueOutcome, settingsOutcome, SettingsIn, FactFound, AuthFound, ValueFound, PortFound, SettingsFound}
+use Rattle.lent.specs.Places.{valueAt, factOutcome, authOutcome, valueOutcome, settingsOutcome, ValueIn, SettingsIn, FactFound, AuthFound, SiteFound, ValueFound, PortFound, SettingsFound}
 use Rattle.lent.specs.declared.places.FactPlace.{FactPlace}
 use Rattle.lent.specs.declared.places.ValuePlace.{ValuePlace}
 use Rattle.lent.specs.declared.places.AuthPlaces.{AuthPlaces}
@@ -126,66 +124,52 @@ module _ (facts : List ℕ) (w : wellFormed facts ≡ true) where
 
 -- In the connection facts, then in the site settings.
 
-abbrev heldValue : List ℕ → List ℕ → Held → Option (List ℕ)
-heldValue facts site (in-first p) = some (partIn facts p)
-heldValue facts site (in-second p) = some (partIn site p)
-heldValue facts site in-neither = none
+-- what an answer says that is a value's place, or a breach where the value is empty
+at-place :
+    (facts site : List ℕ) (t : Bool) (p : Part) (r : Value) → p .start + p .len ≤ length (cond t site facts)
+    → r ≡ cond (eqb (p .len) 0) ValueBreach (ValueAt (record { site = t; start = p .start; len = p .len }))
+    → (valueOutcome facts site r ≡ filled (some (partIn (cond t site facts) p))) × ValueIn facts site r
+at-place facts site t p r i e = by (eqb (p .len) 0) refl e
+  where
+    by :
+        (q : Bool) → eqb (p .len) 0 ≡ q → r ≡ cond q ValueBreach (ValueAt (record { site = t; start = p .start; len = p .len }))
+        → (valueOutcome facts site r ≡ filled (some (partIn (cond t site facts) p))) × ValueIn facts site r
+    by true q f = rw f (sym (part-empty (cond t site facts) p (eqb-true (p .len) 0 q)), tt)
+    by false q f = rw f (sym (part-filled (cond t site facts) p i (eqb-false (p .len) 0 q)), i)
 
-module _ (facts site : List ℕ) (w : wellFormed facts ≡ true) (v : wellFormed site ≡ true) where
-  module _ (name : List ℕ) where
-    abbrev soughtIn : Outcome (List ℕ)
-    soughtIn = then (parsed facts) (λ fs. then (parsed site) (λ ss. sought name fs ss))
+module _ (site : List ℕ) (v : wellFormed site ≡ true) (name : List ℕ) where
+  pub no-site : (q : Place) → OneOf (1 ∷ (2 ∷ [])) (tagOf the-type q) → placeOutcome q ≡ lookupOf site name → SiteFound site name ValueBreach
+  no-site q k e = record { answer = λ facts. no-fact site v name q k e .answer; inside = λ facts. tt }
 
-    held : (f s : Option Part) → orIn (partOption facts f) (partOption site s) ≡ heldValue facts site (firstOf f s)
-    held (some p) s = refl
-    held none (some p) = refl
-    held none none = refl
+  pub in-site-at :
+      (p : Part) (r : Value) → lookupOf site name ≡ gives (some p)
+      → r ≡ cond (eqb (p .len) 0) ValueBreach (ValueAt (record { site = true; start = p .start; len = p .len })) → SiteFound site name r
+  in-site-at p r e f =
+      let i = places-inside .of-one site name p e in
+      record {
+        answer = λ facts. at-place facts site true p r i f .0 ∙ sym (fact-is site v name (some p) e);
+        inside = λ facts. at-place facts site true p r i f .1;
+      }
 
-    value-is : (o : Held) → settingOf facts site name ≡ gives o → soughtIn ≡ filled (heldValue facts site o)
-    unfolding settingOf
-    value-is o e =
-        let f = then-gives (lookupOf facts name) _ o e in
-        let s = then-gives (lookupOf site name) (λ q. gives (firstOf (f .it) q)) o (f .next) in
-        let q : gives (firstOf (f .it) (s .it)) ≡ gives o = s .next in
-        let z : firstOf (f .it) (s .it) ≡ o = cc in
-        rw (headed facts w .is, headed site v .is)
-        (rw (looked facts w name (f .it) (f .first), looked site v name (s .it) (s .first)) (ap filled (held (f .it) (s .it) ∙ ap (heldValue facts site) z)))
+module _ (facts site : List ℕ) (w : wellFormed facts ≡ true) (v : wellFormed site ≡ true) (name : List ℕ) where
+  value-is :
+      (o : Option Part) → lookupOf facts name ≡ gives o
+      → then (parsed facts) (λ fs. then (parsed site) (λ ss. sought name fs ss)) ≡ filled (orIn (partOption facts o) (valueIn name (headed site v .hs)))
+  value-is o e = rw (headed facts w .is, headed site v .is) (rw (looked facts w name o e))
 
-    pub always-sought : (n : ℕ) → settingOf facts site name ≡ refused n → ⊥
-    unfolding settingOf
-    always-sought n e = by (lookupOf facts name) (lookupOf site name) refl refl e
-      where
-        by :
-            (f s : Outcome (Option Part)) → lookupOf facts name ≡ f → lookupOf site name ≡ s
-            → then f (λ a. then s (λ b. gives (firstOf a b))) ≡ refused n → ⊥
-        by (refused k) s p q r = always-looked facts name w k p
-        by (gives a) (refused k) p q r = always-looked site name v k q
-        by (gives a) (gives b) p q r = let z : _≡_ {A = ℕ} 0 1 = cc in omega arith
+  pub in-facts-at :
+      (p : Part) (r : Value) → lookupOf facts name ≡ gives (some p)
+      → r ≡ cond (eqb (p .len) 0) ValueBreach (ValueAt (record { site = false; start = p .start; len = p .len })) → ValueFound facts site name r
+  in-facts-at p r e f =
+      let a = at-place facts site false p r (places-inside .of-one facts name p e) f in
+      record { answer = a .0 ∙ sym (value-is (some p) e); inside = a .1 }
 
-    pub no-value : settingOf facts site name ≡ gives in-neither → ValueFound facts site name ValueBreach
-    no-value e = record { answer = sym (value-is in-neither e); inside = tt }
-
-    -- a value at a place, empty or not
-    at-place :
-        (t : Bool) (p : Part) (r : Value) → soughtIn ≡ filled (some (partIn (cond t site facts) p)) → p .start + p .len ≤ length (cond t site facts)
-        → r ≡ cond (eqb (p .len) 0) ValueBreach (ValueAt (record { site = t; start = p .start; len = p .len })) → ValueFound facts site name r
-    at-place t p r a i e = by (eqb (p .len) 0) refl e
-      where
-        by :
-            (q : Bool) → eqb (p .len) 0 ≡ q → r ≡ cond q ValueBreach (ValueAt (record { site = t; start = p .start; len = p .len }))
-            → ValueFound facts site name r
-        by true q f = rw f (record { answer = sym (a ∙ part-empty (cond t site facts) p (eqb-true (p .len) 0 q)); inside = tt })
-        by false q f = rw f (record { answer = sym (a ∙ part-filled (cond t site facts) p i (eqb-false (p .len) 0 q)); inside = i })
-
-    pub first-value :
-        (p : Part) (r : Value) → settingOf facts site name ≡ gives (in-first p)
-        → r ≡ cond (eqb (p .len) 0) ValueBreach (ValueAt (record { site = false; start = p .start; len = p .len })) → ValueFound facts site name r
-    first-value p r e f = at-place false p r (value-is (in-first p) e) (places-inside .of-first facts site name p e) f
-
-    pub second-value :
-        (p : Part) (r : Value) → settingOf facts site name ≡ gives (in-second p)
-        → r ≡ cond (eqb (p .len) 0) ValueBreach (ValueAt (record { site = true; start = p .start; len = p .len })) → ValueFound facts site name r
-    second-value p r e f = at-place true p r (value-is (in-second p) e) (places-inside .of-second facts site name p e) f
+  pub not-in-facts : (r : Value) → lookupOf facts name ≡ gives none → SiteFound site name r → ValueFound facts site name r
+  not-in-facts r e f =
+      record {
+        answer = f .answer facts ∙ ap (λ (o : Outcome (List Header)). then o (λ ss. filled (valueIn name ss))) (headed site v .is) ∙ sym (value-is none e);
+        inside = f .inside facts;
+      }
 
 -- The port.
 

@@ -126,6 +126,11 @@ pub record AuthFound (facts : List ℕ) (r : Auth) : Type 0 where
       ≡ then (parsed facts) (λ fs. authOf (valueIn (bytes "AUTH_TYPE") fs) (valueIn (bytes "REMOTE_USER") fs))
   pub inside : AuthIn facts r
 
+-- in the site settings, whatever the connection facts are
+pub record SiteFound (site name : List ℕ) (r : Value) : Type 0 where
+  pub answer : (facts : List ℕ) → valueOutcome facts site r ≡ then (parsed site) (λ ss. filled (valueIn name ss))
+  pub inside : (facts : List ℕ) → ValueIn facts site r
+
 pub record ValueFound (facts site name : List ℕ) (r : Value) : Type 0 where
   pub answer : valueOutcome facts site r ≡ then (parsed facts) (λ fs. then (parsed site) (λ ss. sought name fs ss))
   pub inside : ValueIn facts site r

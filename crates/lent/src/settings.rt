@@ -5,15 +5,13 @@ ghost use lib.Dec.{eqb};
 ghost use Rattle.headers.specs.Block.{wellFormed};
 ghost use Rattle.lent.specs.Settings.{isPort};
 ghost use Rattle.lent.specs.declared.settings.Value.the-variants.{At, Breach};
-ghost use Rattle.lent.specs.Places.{FactFound, AuthFound, ValueFound, PortFound, SettingsFound};
+ghost use Rattle.lent.specs.Places.{FactFound, AuthFound, SiteFound, ValueFound, PortFound, SettingsFound};
 use crate::places::AuthPlaces;
 use crate::places::FactPlace;
 use crate::places::SettingPlaces;
 use crate::places::ValuePlace;
 use headers::lookup::Place;
 use headers::lookup::seek;
-use headers::setting::Where;
-use headers::setting::find_setting;
 use octets::decimal;
 use octets::decimal::Number;
 
@@ -104,17 +102,28 @@ fn filled(site: bool, start: usize, len: usize) -> Value
     Value::At(ValuePlace { site, start, len })
 }
 
+// The value of a name in the site settings, there and not empty.
+fn find_site(site: &[u8], name: &[u8]) -> Value
+    requires { ⌜ wellFormed (now site) ≡ true ⌝ }
+    ensures { λ r. ⌜ SiteFound (now (site .entry)) (now (name .entry)) r ⌝ }
+{
+    let p = seek(site, name);
+    let Place::At { start, len } = p else {
+        return Value::Breach;
+    };
+    filled(true, start, len)
+}
+
 // The value of a name in the connection facts, or else in the site settings; there and not empty.
 fn find_value(facts: &[u8], site: &[u8], name: &[u8]) -> Value
     requires { ⌜ (wellFormed (now facts) ≡ true) × (wellFormed (now site) ≡ true) ⌝ }
     ensures { λ r. ⌜ ValueFound (now (facts .entry)) (now (site .entry)) (now (name .entry)) r ⌝ }
 {
-    let w = find_setting(facts, site, name);
-    match w {
-        Where::First { start, len } => filled(false, start, len),
-        Where::Second { start, len } => filled(true, start, len),
-        Where::Absent => Value::Breach,
-        Where::Refused(_) => Value::Breach,
+    let f = seek(facts, name);
+    match f {
+        Place::At { start, len } => filled(false, start, len),
+        Place::Refused(_) => Value::Breach,
+        Place::Absent => find_site(site, name),
     }
 }
 

@@ -12,7 +12,7 @@ stored-differ-requires : tie.Need-stored-differ-requires
 stored-differ-requires c κs =
     let s = c .before .before .before in
     let a = s .before .before .before .before in
-    kept-all _ _ _ _ (search needs) _ (s .store-names .ensures) (a .pre .0) (a .pre .1)
+    kept-all _ _ _ _ _ (s .store-names .ensures) (a .pre .0) (a .pre .1)
 
 same-length : tie.Need-same-length
 same-length c = search needs

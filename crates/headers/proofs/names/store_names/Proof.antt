@@ -116,11 +116,8 @@ same-length-4 c = search needs
 
 returns-4 : tie.Need-returns-4 Inv-loop μ-loop
 returns-4 c =
-    let l = c .before in
-    record {
-      answer =
-          (all-counted (l .loop .inv .2) (c .loop-test .left), omega (arith, l .loop .inv .1, l .loop .inv .2 .fits), all-stored (l .loop .inv .2) (c .loop-test .left));
-    }
+    let s = c .before .loop .inv .2 in
+    record { answer = record { count = all-counted s (c .loop-test .left); room = s .fits; stored = all-stored s (c .loop-test .left) } }
 
 pub store-names-spec : {M : Type 1} → statement M
 store-names-spec =

@@ -24,7 +24,7 @@ loop-holds c = (search needs, known _ _ _ (c .before .before .pre) .answer)
 repeated-requires : tie.Need-repeated-requires Inv-loop μ-loop
 repeated-requires c κs =
     let s = c .before .before .before .before in
-    (c .loop-test .taken, s .pre .room, known _ _ _ (s .pre) .inside)
+    (c .loop-test .taken, s .pre .kept .room, known _ _ _ (s .pre) .inside)
 
 returns : tie.Need-returns Inv-loop μ-loop
 returns c =

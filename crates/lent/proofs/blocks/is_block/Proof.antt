@@ -1,52 +1,64 @@
 -- `lent::blocks::is_block` meets its contract.
 -- Assumes nothing.
-use mathlib.Core.Path.{_≡_, sym, ap, _∙_}
+use mathlib.Core.Path.{sym}
 use borrow.Author.Needs.{needs}
-use Rattle.lent.proofs.BlockSteps.{too-long, malformed, few-names, block-is}
+use Rattle.lent.proofs.BlockSteps.{too-long, malformed, block-is}
 use Rattle.lent.proofs.blocks.is_block.Statement.{statement}
 use Rattle.lent.proofs.blocks.is_block.Tie as tie
-use Rattle.octets.specs.Outcome.{gives}
-use Rattle.headers.specs.Block.{countOutcome, countOf}
-
--- the headers, where the pattern matched
-count : (c : tie.After-known-told) → countOf (c .before .before .before .before .before .before .args .block .now) ≡ gives (c .before .c .given .0 .0)
-count c = sym (c .before .before .before .count-headers .ensures) ∙ ap countOutcome (c .before .c .given .1)
 
 returns : tie.Need-returns
 returns c = sym (too-long 1024 (c .before .before .args .block .now) (c .if1 .taken))
 
-count-headers-requires : tie.Need-count-headers-requires
-count-headers-requires c κs = search needs
+slice-aggregate-store-names : tie.Need-slice-aggregate-store-names
+slice-aggregate-store-names c = search needs
 
-enum-known-c : tie.Need-enum-known-c
-enum-known-c c = search needs
+store-names-requires : tie.Need-store-names-requires
+store-names-requires c κs = search needs
 
 enum-told : tie.Need-enum-told
 enum-told c = search needs
 
+enum-told-2 : tie.Need-enum-told-2
+enum-told-2 c = search needs
+
+is-large-requires : tie.Need-is-large-requires
+is-large-requires c κs = search needs
+
+enum-known-s : tie.Need-enum-known-s
+enum-known-s c = search needs
+
+slice-aggregate-stored-differ : tie.Need-slice-aggregate-stored-differ
+slice-aggregate-stored-differ c = search needs
+
+stored-differ-requires : tie.Need-stored-differ-requires
+stored-differ-requires c κs = record { before = _; kept = (rw (c .before .before .s .given .1) at (c .before .before .before .before .before .store-names .ensures)) .answer }
+
 returns-2 : tie.Need-returns-2
-returns-2 c = sym (malformed 1024 _ _ (sym (c .before .before .count-headers .ensures) ∙ ap countOutcome (c .enum-told .given .1)))
-
-slice-aggregate-names-differ-by : tie.Need-slice-aggregate-names-differ-by
-slice-aggregate-names-differ-by c = search needs
-
-names-differ-by-requires : tie.Need-names-differ-by-requires
-names-differ-by-requires c κs = (count (c .before), few-names _ _ (count (c .before)) (c .before .before .before .before .before .if1 .left))
+returns-2 c =
+    let f = rw (c .enum-told .given .1) at (c .before .before .before .store-names .ensures) in
+    sym (malformed 1024 _ _ (f .answer))
 
 returns-3 : tie.Need-returns-3
-returns-3 c =
-    let k = c .before .before .before in
-    block-is 1024 _ _ _ (count k) (k .before .before .before .before .if1 .left) (c .before .names-differ-by .ensures)
+returns-3 c = search needs
+
+returns-4 : tie.Need-returns-4
+returns-4 c =
+    let f = rw (c .before .before .before .s .given .1) at (c .before .before .before .before .before .before .store-names .ensures) in
+    block-is 1024 _ _ _ (f .answer .count) (c .before .before .before .before .before .before .before .before .if1 .left) (c .stored-differ .ensures)
 
 pub is-block-spec : {M : Type 1} → statement M
 is-block-spec =
     tie.close
     (tie.spec
     returns
-    count-headers-requires
-    enum-known-c
+    slice-aggregate-store-names
+    store-names-requires
     enum-told
+    enum-told-2
+    is-large-requires
+    enum-known-s
+    slice-aggregate-stored-differ
+    stored-differ-requires
     returns-2
-    slice-aggregate-names-differ-by
-    names-differ-by-requires
-    returns-3)
+    returns-3
+    returns-4)

@@ -8,7 +8,6 @@ use borrow.Author.Tests.{not-true, not-false}
 use Rattle.octets.specs.Outcome.{gives}
 use Rattle.scgi.proofs.CheckSteps.{equal-names, other-names}
 use Rattle.headers.proofs.Lookups.{count-refused}
-use Rattle.headers.proofs.NamePlaces.{kept}
 use Rattle.scgi.proofs.check.check_block.Statement.{statement}
 use Rattle.scgi.proofs.check.check_block.Tie as tie
 use Rattle.headers.specs.Block.{countOf}
@@ -20,7 +19,7 @@ count :
     → (countOf (c .before .before .before .before .before .before .before .args .block .now) ≡ gives (c .before .s2 .given .0 .0)) × (c .before .s2 .given .0 .0 ≤ 128)
 count c =
     let f = rw (c .before .s2 .given .1) at (c .before .before .before .before .store-names .ensures) in
-    (f .answer .0, omega (arith, f .answer .1))
+    (f .answer .count, omega (arith, f .answer .room))
 
 slice-aggregate-store-names : tie.Need-slice-aggregate-store-names
 slice-aggregate-store-names c = search needs
@@ -44,7 +43,7 @@ slice-aggregate-stored-differ : tie.Need-slice-aggregate-stored-differ
 slice-aggregate-stored-differ c = search needs
 
 stored-differ-requires : tie.Need-stored-differ-requires
-stored-differ-requires c κs = kept _ _ _ _ (search needs) _ (c .before .before .before .before .before .store-names .ensures) (c .before .before .s2 .given .1)
+stored-differ-requires c κs = record { before = _; kept = (rw (c .before .before .s2 .given .1) at (c .before .before .before .before .before .store-names .ensures)) .answer }
 
 returns : tie.Need-returns
 returns c =
