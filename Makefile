@@ -10,6 +10,7 @@ CC ?= cc
 CFLAGS ?= -O2
 WARNINGS = -std=c89 -Wall -Wextra -Wpedantic -Werror
 ARCHIVE = target/staticlib/libcapi.a
+SOURCES := crates.txt $(shell find crates -name '*.rt' -o -name '*.antt')
 FRONT = target/example/front
 VERSION = 0.1.0
 TO = $(DESTDIR)$(PREFIX)
@@ -18,17 +19,21 @@ TO = $(DESTDIR)$(PREFIX)
 
 all: archive programs example
 
-# rt proves and builds only what changed
-archive:
+archive: $(ARCHIVE)
+
+$(ARCHIVE): $(SOURCES)
 	rt staticlib capi
 
+# rt proves and builds only what changed
 programs:
 	rt check spool vectors
 
 spool:
 	rt check spool
 
-example: archive
+example: $(FRONT)
+
+$(FRONT): examples/front.c include/oyinkafubo.h $(ARCHIVE)
 	@mkdir -p $(dir $(FRONT))
 	$(CC) $(CFLAGS) $(WARNINGS) -Iinclude examples/front.c $(ARCHIVE) -o $(FRONT)
 

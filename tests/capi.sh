@@ -3,7 +3,7 @@
 # 'N passed, M failed'. OY_ARCHIVE_DIR names another folder with libcapi.a, which is then not built here.
 set -uo pipefail
 cd "$(dirname "${BASH_SOURCE[0]}")/.." || exit 2
-[ -n "${OY_ARCHIVE_DIR:-}" ] || rt staticlib capi || exit 1
+[ -n "${OY_ARCHIVE_DIR:-}" ] || make -s archive || exit 1
 folder=$(realpath "${OY_ARCHIVE_DIR:-target/staticlib}")
 export OY_ARCHIVE_DIR=$folder
 dir=$(mktemp -d)
