@@ -119,8 +119,58 @@ fn too_large(w: Writing) -> bool
     }
 }
 
-// Writes the variables of a request as netstring, and its body: 22; 21. A short head is tried with a short buffer first, since a buffer is
-// set to zero before it is used.
+// The same, tried with a short buffer first.
+fn write_short(
+    facts: &[u8],
+    site: &[u8],
+    settings: SettingPlaces,
+    head: &[u8],
+    places: &[u64],
+    path: &[u8],
+    line: LinePlaces,
+    fields: FieldPlaces,
+    name_len: usize,
+    body: &[u8],
+    out: &mut [u8],
+) -> Writing
+    requires { ⌜ PlacesKnown (now facts) (now site) (now head) (now places) (now path) (now body) settings line fields «name_len» × (length (now body) ≤ 1048576) ⌝ }
+    ensures { λ r. ⌜ WrittenOut (bytesWithin 16384 (blockAt (now (facts .entry)) (now (site .entry)) (now (head .entry)) (now (places .entry)) (now (path .entry)) (now (body .entry)) settings line fields «name_len») (now (body .entry)) (length (now (out .entry)))) (now (out .entry)) (now (out .exit)) r ⌝ }
+{
+    let mut block = [0u8; 2048];
+    let w = write_by(
+        facts,
+        site,
+        settings,
+        head,
+        places,
+        path,
+        line,
+        fields,
+        name_len,
+        body,
+        &mut block,
+        out,
+    );
+    if !too_large(w) {
+        return w;
+    }
+    write_large(
+        facts,
+        site,
+        settings,
+        head,
+        places,
+        path,
+        line,
+        fields,
+        name_len,
+        body,
+        out,
+    )
+}
+
+// Writes the variables of a request as netstring, and its body: 22; 21. For a short head a short buffer is tried first, since a buffer is set
+// to zero before it is used.
 fn write_request(
     facts: &[u8],
     site: &[u8],
@@ -152,8 +202,7 @@ fn write_request(
             out,
         );
     }
-    let mut block = [0u8; 2048];
-    let w = write_by(
+    write_short(
         facts,
         site,
         settings,
@@ -164,25 +213,8 @@ fn write_request(
         fields,
         name_len,
         body,
-        &mut block,
         out,
-    );
-    if too_large(w) {
-        return write_large(
-            facts,
-            site,
-            settings,
-            head,
-            places,
-            path,
-            line,
-            fields,
-            name_len,
-            body,
-            out,
-        );
-    }
-    w
+    )
 }
 
 // The step's answer by the writer's.

@@ -1,0 +1,52 @@
+-- `gateway::step::write_short` meets its contract.
+-- Assumes nothing.
+use mathlib.Core.Path.{sym, _∙_}
+use native.Mathlib.Omega.{arith}
+use Rattle.variables.specs.Block.{blockAt}
+use Rattle.gateway.proofs.StepParts.{tried, tried-again}
+use borrow.Author.Needs.{needs}
+use borrow.Author.Tests.{not-true, not-false}
+use Rattle.gateway.proofs.step.write_short.Statement.{statement}
+use Rattle.gateway.proofs.step.write_short.Tie as tie
+
+slice-aggregate-write-by : tie.Need-slice-aggregate-write-by
+slice-aggregate-write-by c = search needs
+
+write-by-requires : tie.Need-write-by-requires
+write-by-requires c κs = search needs
+
+too-large-requires : tie.Need-too-large-requires
+too-large-requires c κs = search needs
+
+same-length : tie.Need-same-length
+same-length c = search needs
+
+returns : tie.Need-returns
+returns c =
+    let a = c .before .before .before .before .before .before .before .before .before .before .before .before .before .before .before .args in
+    tried 2048 (blockAt (a .facts .now) (a .site .now) (a .head .now) (a .places .now) (a .path .now) (a .body .now) (a .settings) (a .line) (a .fields) (a .name-len)) (a .body .now) (a .out .now) _ _ (c .before .before .before .before .before .write-by .ensures) (sym (c .before .too-large .ensures) ∙ not-true _ (c .if1 .taken)) (omega arith)
+
+write-large-requires : tie.Need-write-large-requires
+write-large-requires c κs = search needs
+
+same-length-2 : tie.Need-same-length-2
+same-length-2 c = search needs
+
+returns-2 : tie.Need-returns-2
+returns-2 c =
+    let a = c .before .before .before .before .before .before .before .before .before .before .before .before .before .before .before .before .before .before .before .args in
+    let left = tried-again 2048 (blockAt (a .facts .now) (a .site .now) (a .head .now) (a .places .now) (a .path .now) (a .body .now) (a .settings) (a .line) (a .fields) (a .name-len)) (a .body .now) (a .out .now) _ _ (c .before .before .before .before .before .before .before .before .before .write-by .ensures) (sym (c .before .before .before .before .before .too-large .ensures) ∙ not-false _ (c .before .before .before .before .if1 .left)) in
+    rw left at (c .before .before .write-large .ensures)
+
+pub write-short-spec : {M : Type 1} → statement M
+write-short-spec =
+    tie.close
+    (tie.spec
+    slice-aggregate-write-by
+    write-by-requires
+    too-large-requires
+    same-length
+    returns
+    write-large-requires
+    same-length-2
+    returns-2)
