@@ -1,7 +1,7 @@
 -- Laws of a field line that is read in place: the run of its name's bytes ends at the colon, the run of its value's bytes where the line does.
 -- Assumes nothing.
 use mathlib.Core.Path.{_≡_, refl, sym, ap, _∙_}
-use mathlib.Core.Bool.{Bool, true, false, cond, not, _&&_, _||_, and-false, false≢true}
+use mathlib.Core.Bool.{Bool, true, false, cond, not, _&&_, _||_, and-false}
 use mathlib.Core.List.{List, [], _∷_}
 use mathlib.Core.Option.{none, some}
 use Prim.Native.Nat.{ℕ, zero, suc, _+_, _-_, _≤_, _<_}
@@ -10,7 +10,7 @@ use native.Mathlib.Omega.{arith}
 use lib.Dec.{eqb, leb}
 use lib.ListN.{length, take, drop, getD, length-take, length-drop}
 use lib.Seq.{take-take, take-add, getD-take, getD-drop, drop-drop, drop-at, length-take-le}
-use borrow.Author.Tests.{eq-eqb, ne-eqb, eqb-true, eqb-false, lt-ltb, le-leb, lt-leb, leb-true, leb-false}
+use borrow.Author.Tests.{eq-eqb, eqb-true, eqb-false, lt-ltb, le-leb, lt-leb, leb-true, leb-false}
 use Rattle.octets.specs.Kinds.{isDigit, isLetter, isToken, isName, isBlank, isValue}
 use Rattle.octets.specs.Scan.{run, allOf, other}
 use Rattle.octets.specs.Trim.{kept, trimmed, trimmedEnd}
@@ -19,7 +19,7 @@ use Rattle.octets.proofs.Trims.{kept-take}
 use Rattle.http.specs.Lines.{endsLine, linesOf, lineRun}
 use Rattle.http.specs.Fields.{isFieldName, fieldWith, fieldOf, FieldStands}
 use Rattle.http.proofs.FieldLines.{no-colon, bad-name}
-use Rattle.http.proofs.LineCuts.{ends-at, line-more, line-le, first-line}
+use Rattle.http.proofs.LineCuts.{passes-other, ends-at, line-more, line-le, run-line, line-on, first-line}
 
 -- PARTS OF A LIST
 
@@ -60,9 +60,6 @@ first-there x (b ∷ s) h = by (eqb b x) refl h (first-there x s)
 -- A BYTE x THAT FAILS THE TEST p
 
 module _ (p : ℕ → Bool) (x : ℕ) (fails : p x ≡ false) where
-  passes-other : (b : ℕ) → p b ≡ true → eqb b x ≡ false
-  passes-other b e = ne-eqb b x (λ q. false≢true (sym fails ∙ ap p (sym q) ∙ e))
-
   -- the run ends at the first x, or before it
   run-before : (s : List ℕ) → run p s ≤ run (other x) s
   unfolding run
@@ -70,7 +67,7 @@ module _ (p : ℕ → Bool) (x : ℕ) (fails : p x ≡ false) where
   run-before (b ∷ s) = by (p b) refl (run-before s)
     where
       by : (t : Bool) → p b ≡ t → run p s ≤ run (other x) s → cond t (suc (run p s)) 0 ≤ cond (not (eqb b x)) (suc (run (other x) s)) 0
-      by true e h = rw (passes-other b e) (omega arith)
+      by true e h = rw (passes-other p x fails b e) (omega arith)
       by false e h = omega arith
 
   -- .. and at the first x where it ends at one
@@ -83,31 +80,8 @@ module _ (p : ℕ → Bool) (x : ℕ) (fails : p x ≡ false) where
           (t : Bool) → p b ≡ t → cond t (suc (run p s)) 0 < suc (length s) → getD (b ∷ s) (cond t (suc (run p s)) 0) 0 ≡ x
           → (run p s < length s → getD s (run p s) 0 ≡ x → run (other x) s ≡ run p s)
           → cond (not (eqb b x)) (suc (run (other x) s)) 0 ≡ cond t (suc (run p s)) 0
-      by true e h q ih = rw (passes-other b e) (ap suc (ih (omega arith) q))
+      by true e h q ih = rw (passes-other p x fails b e) (ap suc (ih (omega arith) q))
       by false e h q ih = rw (eq-eqb b x q)
-
--- a run of bytes that are not CR ends within the line
-run-line : (p : ℕ → Bool) → p 13 ≡ false → (s : List ℕ) → run p s ≤ lineRun s
-unfolding run lineRun
-run-line p f [] = omega arith
-run-line p f (b ∷ s) = by (p b) refl (run-line p f s)
-  where
-    by : (t : Bool) → p b ≡ t → run p s ≤ lineRun s → cond t (suc (run p s)) 0 ≤ cond (endsLine (b ∷ s)) 0 (suc (lineRun s))
-    by true e h = rw (passes-other p 13 f b e) (omega arith)
-    by false e h = omega arith
-
--- a line from a place in it on
-line-later : (s : List ℕ) (n : ℕ) → n ≤ lineRun s → lineRun s ≡ n + lineRun (drop n s)
-unfolding lineRun
-line-later s zero h = omega arith
-line-later [] (suc n) h = omega arith
-line-later (b ∷ s) (suc n) h = by (endsLine (b ∷ s)) h (line-later s n)
-  where
-    by :
-        (t : Bool) → suc n ≤ cond t 0 (suc (lineRun s)) → (n ≤ lineRun s → lineRun s ≡ n + lineRun (drop n s))
-        → cond t 0 (suc (lineRun s)) ≡ suc n + lineRun (drop n s)
-    by true h ih = omega arith
-    by false h ih = omega (arith, ih (omega arith))
 
 -- SPACES AND TABS AT THE ENDS, of bytes whose test p they pass
 
@@ -203,7 +177,7 @@ module _ (s : List ℕ) where
     line-past : lineRun s ≡ n + 1 + lineRun rest
     line-past =
         let e : endsLine (drop n s) ≡ false = ends-at s n ∙ rw q in
-        omega (arith, line-later s n (run-line isName name-cr s), line-more s n i e)
+        omega (arith, line-on isName name-cr s 0 n (omega arith), line-more s n i e)
 
     at-colon : fieldOf isName line ≡ fieldWith isName line n
     unfolding fieldOf
@@ -283,9 +257,7 @@ module _ (head : List ℕ) (start c : ℕ) (l : start ≤ length head) (name : c
 
       value-line : lineRun after ≡ run isValue after + lineRun (drop e head)
       unfolding isValue
-      value-line =
-          let d : drop (run isValue after) after ≡ drop e head = drop-drop (run isValue after) (c + 1) head ∙ ap (λ (k : ℕ). drop k head) (sym value) in
-          line-later after (run isValue after) (run-line isValue refl after) ∙ ap (λ (t : List ℕ). run isValue after + lineRun t) d
+      value-line = omega (arith, line-on isValue refl head (c + 1) e value)
 
       pub valueless : eqb (lineRun (drop e head)) 0 ≡ false → fieldOf isName (linesOf (drop start head) .first) ≡ none
       valueless h =

@@ -1,9 +1,9 @@
--- Laws of lines: where they end, byte by byte, and the lines by the first place of CR LF.
+-- Laws of lines: where they end, byte by byte and by runs of bytes that are not CR, and the lines by the first place of CR LF.
 -- Assumes nothing.
 use mathlib.Core.Path.{_≡_, refl, sym, ap, _∙_}
-use mathlib.Core.Bool.{Bool, true, false, cond, _&&_, and-false}
+use mathlib.Core.Bool.{Bool, true, false, cond, _&&_, and-false, false≢true}
 use mathlib.Core.List.{List, [], _∷_}
-use Prim.Native.Nat.{ℕ, suc, _+_, _-_, _≤_, _<_}
+use Prim.Native.Nat.{ℕ, zero, suc, _+_, _-_, _≤_, _<_}
 use native.Mathlib.Nat.{add-zero}
 use native.Mathlib.Omega.{arith}
 use lib.Dec.{eqb}
@@ -11,6 +11,7 @@ use lib.ListN.{length, take, drop, getD, length-drop, drop-of-length-le, List·g
 use lib.Seq.{getD-drop, drop-drop}
 use borrow.Author.Tests.{ne-eqb, eqb-true}
 use Rattle.octets.specs.Parts.{Parts, before, longer}
+use Rattle.octets.specs.Scan.{run}
 use Rattle.octets.proofs.Bools.{and-right}
 use Rattle.octets.proofs.Lists.{next, there}
 use Rattle.http.specs.Lines.{endsLine, linesFrom, linesOf, lineRun}
@@ -67,6 +68,40 @@ line-le (b ∷ s) = by (endsLine (b ∷ s)) (line-le s)
 -- a line that begins within s ends within s
 pub line-within : (s : List ℕ) (i : ℕ) → i ≤ length s → i + lineRun (drop i s) ≤ length s
 line-within s i h = omega (arith, line-le (drop i s), length-drop i s)
+
+-- a byte that passes the test p is not x, which fails it
+pub passes-other : (p : ℕ → Bool) (x : ℕ) → p x ≡ false → (b : ℕ) → p b ≡ true → eqb b x ≡ false
+passes-other p x fails b e = ne-eqb b x (λ q. false≢true (sym fails ∙ ap p (sym q) ∙ e))
+
+-- a run of bytes that are not CR ends within the line
+pub run-line : (p : ℕ → Bool) → p 13 ≡ false → (s : List ℕ) → run p s ≤ lineRun s
+unfolding run lineRun
+run-line p f [] = omega arith
+run-line p f (b ∷ s) = by (p b) refl (run-line p f s)
+  where
+    by : (t : Bool) → p b ≡ t → run p s ≤ lineRun s → cond t (suc (run p s)) 0 ≤ cond (endsLine (b ∷ s)) 0 (suc (lineRun s))
+    by true e h = rw (passes-other p 13 f b e) (omega arith)
+    by false e h = omega arith
+
+-- a line from a place in it on
+line-later : (s : List ℕ) (n : ℕ) → n ≤ lineRun s → lineRun s ≡ n + lineRun (drop n s)
+unfolding lineRun
+line-later s zero h = omega arith
+line-later [] (suc n) h = omega arith
+line-later (b ∷ s) (suc n) h = by (endsLine (b ∷ s)) h (line-later s n)
+  where
+    by :
+        (t : Bool) → suc n ≤ cond t 0 (suc (lineRun s)) → (n ≤ lineRun s → lineRun s ≡ n + lineRun (drop n s))
+        → cond t 0 (suc (lineRun s)) ≡ suc n + lineRun (drop n s)
+    by true h ih = omega arith
+    by false h ih = omega (arith, ih (omega arith))
+
+-- a line goes on to the end k of a run of bytes that are not CR
+pub line-on :
+    (p : ℕ → Bool) → p 13 ≡ false → (s : List ℕ) (i k : ℕ) → k ≡ i + run p (drop i s) → i + lineRun (drop i s) ≡ k + lineRun (drop k s)
+line-on p f s i k e =
+    let d : drop (run p (drop i s)) (drop i s) ≡ drop k s = drop-drop (run p (drop i s)) i s ∙ ap (λ (n : ℕ). drop n s) (sym e) in
+    omega (arith, line-later (drop i s) (run p (drop i s)) (run-line p f (drop i s)), ap lineRun d)
 
 -- CR LF stands where a line ends within s
 pub line-ends : (s : List ℕ) → lineRun s < length s → endsLine (drop (lineRun s) s) ≡ true

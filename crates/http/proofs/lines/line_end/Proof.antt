@@ -3,8 +3,10 @@
 use mathlib.Core.Path.{_≡_, refl, sym, _∙_}
 use Prim.Native.Nat.{_+_, _-_, _≤_}
 use lib.ListN.{length, drop}
+use Rattle.octets.specs.Scan.{other}
+use Rattle.octets.proofs.Scans.{run-within}
 use Rattle.http.specs.Lines.{lineRun}
-use Rattle.http.proofs.LineCuts.{line-stop, line-more, line-none}
+use Rattle.http.proofs.LineCuts.{line-stop, line-more, line-none, line-on}
 use borrow.Author.Needs.{needs}
 use native.Mathlib.Omega.{arith}
 use Rattle.http.proofs.lines.line_end.Statement.{statement}
@@ -16,8 +18,13 @@ Inv-loop s from i₀ i = (i ≤ length s) × (from + lineRun (drop from s) ≡ i
 abbrev μ-loop : tie.MeasureT-loop
 μ-loop s from i₀ i = length s - i
 
+find-requires : tie.Need-find-requires Inv-loop μ-loop
+find-requires c κs = search needs
+
 loop-holds : tie.Need-loop-holds Inv-loop μ-loop
-loop-holds c = (c .before .pre, refl)
+loop-holds c =
+    let a = c .before .before .args in
+    (omega (arith, run-within (other 13) (a .s .now) (a .from) (c .before .before .pre)), line-on (other 13) refl (a .s .now) (a .from) (c .find .result) (c .find .ensures))
 
 ends-line-requires : tie.Need-ends-line-requires Inv-loop μ-loop
 ends-line-requires c κs = search needs
@@ -25,23 +32,31 @@ ends-line-requires c κs = search needs
 returns : tie.Need-returns Inv-loop μ-loop
 returns c =
     let l = c .before .before .before in
-    omega (arith, line-stop (l .before .before .args .s .now) (l .loop .i) (c .before .before .loop-test .taken) (sym (c .before .ends-line .ensures) ∙ c .if1 .taken))
+    omega (arith, line-stop (l .before .before .before .args .s .now) (l .loop .i) (c .before .before .loop-test .taken) (sym (c .before .ends-line .ensures) ∙ c .if1 .taken))
 
-add-i : tie.Need-add-i Inv-loop μ-loop
-add-i c = search needs
+add-find : tie.Need-add-find Inv-loop μ-loop
+add-find c = search needs
+
+find-requires-2 : tie.Need-find-requires-2 Inv-loop μ-loop
+find-requires-2 c κs = search needs
 
 loop-less : tie.Need-loop-less Inv-loop μ-loop
 loop-less c = omega arith
 
 loop-again : tie.Need-loop-again Inv-loop μ-loop
 loop-again c =
-    let l = c .before .before .before in
-    omega (arith, line-more (l .before .before .args .s .now) (l .loop .i) (c .before .before .loop-test .taken) (sym (c .before .ends-line .ensures) ∙ c .if1 .left))
+    let l = c .before .before .before .before in
+    let s = l .before .before .before .args .s .now in
+    let i = l .loop .i in
+    let h = c .before .before .before .loop-test .taken in (
+      omega (arith, run-within (other 13) s (i + 1) (omega arith)),
+      omega (arith, line-more s i h (sym (c .before .before .ends-line .ensures) ∙ c .before .if1 .left), line-on (other 13) refl s (i + 1) (c .find2 .result) (c .find2 .ensures)),
+    )
 
 returns-2 : tie.Need-returns-2 Inv-loop μ-loop
 returns-2 c =
     let l = c .before in
-    omega (arith, line-none (l .before .before .args .s .now) (l .loop .i) (c .loop-test .left))
+    omega (arith, line-none (l .before .before .before .args .s .now) (l .loop .i) (c .loop-test .left))
 
 pub line-end-spec : {M : Type 1} → statement M
 line-end-spec =
@@ -49,10 +64,12 @@ line-end-spec =
     (tie.spec
     Inv-loop
     μ-loop
+    find-requires
     loop-holds
     ends-line-requires
     returns
-    add-i
+    add-find
+    find-requires-2
     loop-less
     loop-again
     returns-2)
