@@ -1,4 +1,5 @@
 pub mod Escapes
+pub mod Paths
 pub mod Targets
 pub mod TargetsAccepted
 pub mod Numbers

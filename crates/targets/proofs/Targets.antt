@@ -12,11 +12,11 @@ use lib.Seq.{take-all, drop-drop, length-take-le}
 use borrow.Author.Tests.{eq-eqb, ne-eqb, le-leb, lt-leb, eqb-true, leb-true, leb-false, ltb-true, ltb-false}
 use Rattle.octets.specs.Kinds.{isTarget}
 use Rattle.octets.specs.Scan.{run, other, allOf, count}
-use Rattle.octets.specs.Copy.{over, Wrote}
+use Rattle.octets.specs.Copy.{over}
 use Rattle.octets.proofs.Bools.{and-left, and-right, and-false}
-use Rattle.octets.proofs.Scans.{run-le, all-same-run}
+use Rattle.octets.proofs.Scans.{run-le, all-take, all-same-run}
 use Rattle.octets.proofs.Parting.{part-found, part-none}
-use Rattle.octets.proofs.Copies.{over-nil, length-over}
+use Rattle.octets.proofs.Copies.{over-nil}
 use Rattle.octets.proofs.Copies as copies
 use Rattle.targets.specs.Escape.{escapesRight, decoded}
 use Rattle.targets.specs.Target.{
@@ -31,8 +31,11 @@ use Rattle.targets.specs.Target.{
   written,
   TargetRead,
   rawOf,
+  PathRight,
+  PathRead,
 }
 use Rattle.targets.specs.declared.target.Raw.the-variants.{Path as RawPath, Refused as RawRefused}
+use Rattle.targets.specs.declared.target.TargetPlace.{TargetPlace}
 use Rattle.targets.specs.declared.target.TargetPlace.the-variants.{Path, Refused}
 use Rattle.targets.proofs.Escapes.{decoded-le, path-escapes}
 
@@ -195,6 +198,14 @@ raw-gives t k n = by (rawRight t) refl
     by true q e = record { right = q; length-is = cc; slashes-are = cc }
     by false q e = record { right = cc; length-is = cc; slashes-are = cc }
 
+-- the bytes of the path are those of the target
+path-bytes : (t : List ℕ) → allOf isTarget t ≡ true → allOf isTarget (pathOf t) ≡ true
+unfolding pathOf
+path-bytes t e =
+    let whole : run isTarget t ≡ length t = eqb-true _ _ (sym (all-same-run isTarget t) ∙ e) in
+    let short = run-le (other 63) t in
+    all-take isTarget t (run (other 63) t) short ∙ le-leb (run (other 63) t) (run isTarget t) (omega arith)
+
 module _ (t d : List ℕ) (k n : ℕ) (e : rawOf t ≡ RawPath k n) (room : min (length t) 4096 ≤ length d) where
   pub raw-inside : k ≤ length t
   raw-inside = omega (arith, raw-gives t k n e .length-is, path-length t, run-le (other 63) t)
@@ -206,56 +217,48 @@ module _ (t d : List ℕ) (k n : ℕ) (e : rawOf t ≡ RawPath k n) (room : min 
   pub path-room : length (take k t) ≤ length d
   path-room = omega (arith, length-take-le k t raw-inside, raw-inside, raw-says t (raw-gives t k n e .right) .short)
 
-  pub path-right : escapesRight (take k t) ≡ true
+  pub path-right : PathRight (take k t) n
   unfolding pathOf
-  path-right = ap escapesRight path-part ∙ path-escapes t (raw-says t (raw-gives t k n e .right) .escapes)
+  path-right =
+      let says = raw-says t (raw-gives t k n e .right) in
+      record {
+        short = omega (arith, length-take-le k t raw-inside, raw-inside, says .short);
+        bytes = ap (allOf isTarget) path-part ∙ path-bytes t (says .bytes);
+        escapes = ap escapesRight path-part ∙ path-escapes t (says .escapes);
+        slashes = raw-gives t k n e .slashes-are ∙ ap (count 47) (sym path-part);
+      }
 
-  -- the path is decoded
-  module _ (d′ : List ℕ) (r : ℕ) (w : Wrote d 0 (decoded (take k t)) d′ r) where
-    decoded-length : r ≡ length (decoded (pathOf t))
-    decoded-length = w .ends ∙ zero-add (length (decoded (take k t))) ∙ ap (λ (p : List ℕ). length (decoded p)) path-part
+  -- the path is read
+  module _ (d′ : List ℕ) (r : TargetPlace) (w : PathRead (take k t) d d′ r) where
+    path-answer :
+        r
+        ≡ cond (decodedRight (count 47 (pathOf t)) (decoded (pathOf t))) (Path (length (pathOf t)) (length (decoded (pathOf t)))) (Refused 14)
+    path-answer = rw path-part at (w .answer)
 
-    decoded-short : length (decoded (pathOf t)) ≤ 4096
-    decoded-short =
-        omega (arith, decoded-le 0 (pathOf t), path-length t, run-le (other 63) t, raw-says t (raw-gives t k n e .right) .short)
+    path-buffer : d′ ≡ over d 0 (decoded (pathOf t))
+    path-buffer = rw path-part at (w .buffer)
 
-    decoded-room : length (decoded (pathOf t)) ≤ length d
+    whole-buffer : d′ ≡ over d 0 (written t)
+    whole-buffer = rw (raw-gives t k n e .right) path-buffer
+
+    decoded-room : 0 + length (decoded (pathOf t)) ≤ length d
     decoded-room =
         omega (arith, decoded-le 0 (pathOf t), path-length t, run-le (other 63) t, raw-says t (raw-gives t k n e .right) .short)
 
-    decoded-over : d′ ≡ over d 0 (decoded (pathOf t))
-    decoded-over = rw path-part at (w .holds)
+    front : take (length (decoded (pathOf t))) d′ ≡ decoded (pathOf t)
+    front = rw (path-buffer, ← zero-add (length (decoded (pathOf t)))) (copies.before d 0 (decoded (pathOf t)) decoded-room)
 
-    same-room : length d′ ≡ length d
-    same-room = ap length decoded-over ∙ length-over d 0 (decoded (pathOf t)) (omega (arith, decoded-room))
-
-    pub front-inside : r ≤ length d′
-    front-inside = omega (arith, decoded-length, decoded-room, same-room)
-
-    pub front-short : r ≤ 4096
-    front-short = omega (arith, decoded-length, decoded-short)
-
-    front : take r d′ ≡ decoded (pathOf t)
-    front =
-        rw (decoded-over, decoded-length ∙ sym (zero-add (length (decoded (pathOf t)))))
-        (copies.before d 0 (decoded (pathOf t)) (omega (arith, decoded-room)))
-
-    whole-buffer : d′ ≡ over d 0 (written t)
-    whole-buffer = rw (raw-gives t k n e .right) decoded-over
-
-    judged : (x : Bool) → decodedRight n (take r d′) ≡ x → decodedRight (count 47 (pathOf t)) (decoded (pathOf t)) ≡ x
-    judged x q = rw (front, raw-gives t k n e .slashes-are) at q
-
-    pub path-refused : decodedRight n (take r d′) ≡ false → TargetRead t d d′ (Refused 14)
-    unfolding targetOf
-    path-refused q =
-        record { answer = rw (raw-gives t k n e .right, judged false q); measured = tt; buffer = whole-buffer }
-
-    pub path-accepted : decodedRight n (take r d′) ≡ true → TargetRead t d d′ (Path k r)
+    pub target-read : TargetRead t d d′ r
     unfolding targetOf queryOf
-    path-accepted q =
-        record {
-          answer = rw (raw-gives t k n e .right, judged true q, front, raw-gives t k n e .length-is ∙ path-length t);
-          measured = (raw-gives t k n e .length-is, decoded-length);
-          buffer = whole-buffer;
-        }
+    target-read = rw path-answer (by (decodedRight (count 47 (pathOf t)) (decoded (pathOf t))) refl)
+      where
+        by :
+            (x : Bool) → decodedRight (count 47 (pathOf t)) (decoded (pathOf t)) ≡ x
+            → TargetRead t d d′ (cond x (Path (length (pathOf t)) (length (decoded (pathOf t)))) (Refused 14))
+        by true q =
+            record {
+              answer = rw (raw-gives t k n e .right, q, front, path-length t);
+              measured = (refl, refl);
+              buffer = whole-buffer;
+            }
+        by false q = record { answer = rw (raw-gives t k n e .right, q); measured = tt; buffer = whole-buffer }

@@ -1,6 +1,6 @@
 -- A request's target: the rules it obeys, its decoded path and its query.
 -- Assumes nothing.
-use Prim.Native.Nat.{ℕ, _+_}
+use Prim.Native.Nat.{ℕ, _+_, _≤_}
 use mathlib.Core.Path.{_≡_}
 use mathlib.Core.Bool.{Bool, true, cond, not, _&&_, _||_}
 use mathlib.Core.List.{List, [], _∷_}
@@ -90,3 +90,15 @@ pub record TargetRead (t before after : List ℕ) (r : TargetPlace) : Type 0 whe
 -- For the step that judges a target as it stands: the length of its path, and how many slashes the path has.
 abbrev pub rawOf : List ℕ → Raw
 rawOf t = cond (rawRight t) (RawPath (length (pathOf t)) (count 47 (pathOf t))) (RawRefused 14)
+
+-- For the steps after it: the path p with n slashes is one of a target that is right as it stands.
+pub record PathRight (p : List ℕ) (n : ℕ) : Type 0 where
+  pub short : length p ≤ 4096
+  pub bytes : allOf isTarget p ≡ true
+  pub escapes : escapesRight p ≡ true
+  pub slashes : n ≡ count 47 p
+
+-- .. and the answer r, and the buffer before and after, are those of the path p.
+pub record PathRead (p before after : List ℕ) (r : TargetPlace) : Type 0 where
+  pub answer : r ≡ cond (decodedRight (count 47 p) (decoded p)) (Path (length p) (length (decoded p))) (Refused 14)
+  pub buffer : after ≡ over before 0 (decoded p)

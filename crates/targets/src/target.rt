@@ -1,15 +1,18 @@
 // A request's target: the rules it obeys, its path and query.
 ghost use mathlib.Core.Path.{_≡_};
-ghost use mathlib.Core.Bool.{cond};
+ghost use mathlib.Core.Bool.{true, cond};
 ghost use Prim.Native.Nat.{min, _≤_};
 ghost use lib.Dec.{eqb};
 ghost use lib.ListN.{length};
 ghost use Rattle.octets.specs.KindTable.{table};
-ghost use Rattle.octets.specs.Scan.{count, allOf};
-ghost use Rattle.targets.specs.Target.{isPlain, isDots, segmentsRight, decodedRight, rawOf, TargetRead};
+ghost use Rattle.octets.specs.Kinds.{isTarget};
+ghost use Rattle.octets.specs.Scan.{count, allOf, other};
+ghost use Rattle.targets.specs.Escape.{escapesRight};
+ghost use Rattle.targets.specs.Target.{isPlain, isDots, segmentsRight, decodedRight, rawOf, PathRight, PathRead, TargetRead};
 use crate::escape::decode;
 use crate::escape::escapes;
 use octets::compare::same;
+use octets::copy::put;
 use octets::kinds::Kind;
 use octets::scan::find;
 use octets::scan::run_end;
@@ -142,6 +145,47 @@ fn decoded_path(d: &[u8], before: usize) -> bool
     segments(d)
 }
 
+// Reads a path without escapes. Decoded it is itself, so only its segments are left to judge.
+fn plain_path(p: &[u8], path: &mut [u8]) -> TargetPlace
+    requires { ⌜ (length (now p) ≤ 4096) × (length (now p) ≤ length (now path)) × (allOf isTarget (now p) ≡ true) × (allOf (other 37) (now p) ≡ true) ⌝ }
+    ensures { λ r. ⌜ PathRead (now (p .entry)) (now (path .entry)) (now (path .exit)) r ⌝ }
+{
+    let decoded_len = put(path, 0, p);
+    if !segments(p) {
+        return TargetPlace::Refused(14);
+    }
+    TargetPlace::Path {
+        path_len: p.len(),
+        decoded_len,
+    }
+}
+
+// Reads a path with so many slashes, escape by escape.
+fn escaped_path(p: &[u8], slashes: usize, path: &mut [u8]) -> TargetPlace
+    requires { ⌜ (length (now p) ≤ 4096) × (length (now p) ≤ length (now path)) × (escapesRight (now p) ≡ true) × (slashes ≡ count 47 (now p)) ⌝ }
+    ensures { λ r. ⌜ PathRead (now (p .entry)) (now (path .entry)) (now (path .exit)) r ⌝ }
+{
+    let decoded_len = decode(p, path);
+    if !decoded_path(&path[..decoded_len], slashes) {
+        return TargetPlace::Refused(14);
+    }
+    TargetPlace::Path {
+        path_len: p.len(),
+        decoded_len,
+    }
+}
+
+// Reads a path with so many slashes. Few paths have an escape, and one without is read faster.
+fn read_path(p: &[u8], slashes: usize, path: &mut [u8]) -> TargetPlace
+    requires { ⌜ (PathRight (now p) slashes) × (length (now p) ≤ length (now path)) ⌝ }
+    ensures { λ r. ⌜ PathRead (now (p .entry)) (now (path .entry)) (now (path .exit)) r ⌝ }
+{
+    if find(p, 0, b'%') == p.len() {
+        return plain_path(p, path);
+    }
+    escaped_path(p, slashes, path)
+}
+
 // The target t. The decoded path is written to the front of the buffer, which has room for t, or for the longest target that is accepted.
 pub fn target(t: &[u8], path: &mut [u8]) -> TargetPlace
     requires { ⌜ min (length (now t)) 4096 ≤ length (now path) ⌝ }
@@ -155,12 +199,5 @@ pub fn target(t: &[u8], path: &mut [u8]) -> TargetPlace
         };
         return TargetPlace::Refused(n);
     };
-    let decoded_len = decode(&t[..path_len], path);
-    if !decoded_path(&path[..decoded_len], slashes) {
-        return TargetPlace::Refused(14);
-    }
-    TargetPlace::Path {
-        path_len,
-        decoded_len,
-    }
+    read_path(&t[..path_len], slashes, path)
 }
