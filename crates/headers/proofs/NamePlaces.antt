@@ -112,31 +112,35 @@ pub record Found (b ps : List ℕ) (k : ℕ) (hs : List Header) : Type 0 where
   pub are : namesAt b ps k (length hs) ≡ names hs
   pub inside : (j : ℕ) → k ≤ j → j < k + length hs → Inside b ps j
 
-abbrev after : ℕ → Header → ℕ
+-- where the header behind h begins, which begins at i
+abbrev pub after : ℕ → Header → ℕ
 after i h = i + length (h .name) + 1 + length (h .value) + 1
 
 module _
     (h : Header) (hs : List Header) (b ps t : List ℕ) (i k : ℕ) (l : i ≤ length b)
     (e : drop i b ≡ h .name ++ 0 ∷ (h .value ++ 0 ∷ printed hs))
     (d : drop (2 * k) ps ≡ i ∷ (length (h .name) ∷ (namePlaces (after i h) hs ++ t))) where
-  start-at : getD ps (2 * k) 0 ≡ i
+  pub start-at : getD ps (2 * k) 0 ≡ i
   start-at =
       let z : 2 * k + 0 ≡ 2 * k = add-zero (2 * k) in
       sym (getD-drop (2 * k) ps 0 0 ∙ ap (λ (x : ℕ). getD ps x 0) z) ∙ ap (λ (x : List ℕ). getD x 0 0) d
 
-  len-at : getD ps (2 * k + 1) 0 ≡ length (h .name)
+  pub len-at : getD ps (2 * k + 1) 0 ≡ length (h .name)
   len-at = sym (getD-drop (2 * k) ps 1 0) ∙ ap (λ (x : List ℕ). getD x 1 0) d
 
   front : take (length (h .name)) (drop i b) ≡ h .name
   front = ap (take (length (h .name))) e ∙ take-append-seam (h .name) (0 ∷ (h .value ++ 0 ∷ printed hs))
 
+  pub own-name : nameAt b ps k ≡ h .name
+  own-name = rw (start-at, len-at) front
+
   sizes : length b - i ≡ length (h .name) + suc (length (h .value) + suc (length (printed hs)))
   sizes = sym (length-drop i b) ∙ ap length e ∙ simp length-append
 
-  within : after i h ≤ length b
+  pub within : after i h ≤ length b
   within = omega (arith, sizes)
 
-  numbers : drop (2 * (k + 1)) ps ≡ namePlaces (after i h) hs ++ t
+  pub numbers : drop (2 * (k + 1)) ps ≡ namePlaces (after i h) hs ++ t
   numbers =
       let z : 2 * k + 2 ≡ 2 * (k + 1) = omega arith in
       sym (drop-drop 2 (2 * k) ps ∙ ap (λ (x : ℕ). drop x ps) z) ∙ ap (drop 2) d
@@ -151,7 +155,7 @@ module _
   unfolding namesAt
   one-found ih =
       record {
-        are = ap (λ (x : List ℕ). x ∷ namesAt b ps (k + 1) (length hs)) (rw (start-at, len-at) front) ∙ ap (_∷_ (h .name)) (ih .are);
+        are = ap (λ (x : List ℕ). x ∷ namesAt b ps (k + 1) (length hs)) own-name ∙ ap (_∷_ (h .name)) (ih .are);
         inside = λ j lo hi. by ih j (eqb j k) refl lo hi;
       }
 

@@ -2,12 +2,15 @@
 ghost use mathlib.Core.Path.{_≡_};
 ghost use mathlib.Core.Bool.{true};
 ghost use Rattle.headers.specs.Block.{wellFormed};
+ghost use Rattle.headers.specs.Names.{NamesIn};
 ghost use Rattle.headers.specs.Lookup.{placeOutcome, lookupOf, partAt};
 use crate::block::Count;
 use crate::block::HeaderPlace;
 use crate::block::count_headers;
 use crate::block::header_at;
+use crate::names::stored_name;
 use octets::compare::same;
+use octets::scan;
 
 pub enum Place {
     At { start: usize, len: usize },
@@ -54,6 +57,27 @@ pub fn seek(block: &[u8], name: &[u8]) -> Place
             };
         }
         i = value_end + 1;
+    }
+    Place::Absent
+}
+
+// The same in a block of n headers, by the places of their names, which were stored.
+pub fn seek_by(block: &[u8], places: &[usize], n: usize, name: &[u8]) -> Place
+    requires { ⌜ NamesIn (now block) (now places) n ⌝ }
+    ensures { λ r. ⌜ placeOutcome r ≡ lookupOf (now (block .entry)) (now (name .entry)) ⌝ }
+{
+    let mut k: usize = 0;
+    while k < n {
+        let own = stored_name(block, places, k);
+        if same(own, name) {
+            let start = places[2 * k] + places[2 * k + 1] + 1;
+            let end = scan::find(block, start, 0);
+            return Place::At {
+                start,
+                len: end - start,
+            };
+        }
+        k += 1;
     }
     Place::Absent
 }

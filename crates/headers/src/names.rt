@@ -48,7 +48,7 @@ pub fn store_names(block: &[u8], places: &mut [usize]) -> Stored
 }
 
 // The name with the number k.
-fn stored_name<'a>(block: &'a [u8], places: &[usize], k: usize) -> &'a [u8]
+pub fn stored_name<'a>(block: &'a [u8], places: &[usize], k: usize) -> &'a [u8]
     requires { ⌜ (2 * k + 1 < length (now places)) × Inside (now block) (now places) k ⌝ }
     ensures { λ r. ⌜ now r ≡ nameAt (now (block .entry)) (now (places .entry)) k ⌝ }
 {

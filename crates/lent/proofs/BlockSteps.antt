@@ -20,7 +20,7 @@ use Rattle.octets.proofs.Lists.{part-first, part-last, nil-empty, nil-filled}
 use Rattle.octets.proofs.Outcomes.{Gave, given-gives, then-gives}
 use Rattle.headers.specs.Block.{Header, names, headersOf, paired, parsed, wellFormed, countOf, headerIn, HeaderFound}
 use Rattle.headers.specs.Claims.{Headed}
-use Rattle.headers.specs.Names.{NamesFound}
+use Rattle.headers.specs.Names.{NamesFound, NamesIn}
 use Rattle.headers.specs.declared.block.HeaderPlace.the-variants.{At, Refused}
 use Rattle.headers.specs.declared.names.Stored.{Stored}
 use Rattle.headers.specs.declared.names.Stored.the-variants.{Headers, Full, Refused as StoredRefused}
@@ -149,7 +149,7 @@ module _ (limit : ℕ) (b : List ℕ) where
         short ∙ rw z
 
 -- the headers of a block that has n
-pub counted : (b : List ℕ) (n : ℕ) → countOf b ≡ gives n → Gave (parsed b) (λ hs. gives (length hs)) n
+counted : (b : List ℕ) (n : ℕ) → countOf b ≡ gives n → Gave (parsed b) (λ hs. gives (length hs)) n
 counted b n e = then-gives (parsed b) (λ hs. gives (length hs)) n e
 
 count : (b : List ℕ) (n : ℕ) (e : countOf b ≡ gives n) → length (counted b n e .it) ≡ n
@@ -157,8 +157,16 @@ count b n e =
     let q : gives (length (counted b n e .it)) ≡ gives n = counted b n e .next in
     cc
 
+pub well-counted : (b : List ℕ) (n : ℕ) → countOf b ≡ gives n → wellFormed b ≡ true
+well-counted b n e =
+    let g = counted b n e in
+    well-formed-headed b .1 (record { hs = g .it; is = g .first })
+
+pub well-named : (b ps : List ℕ) (n : ℕ) → NamesIn b ps n → wellFormed b ≡ true
+well-named b ps n p = well-counted b n (p .kept .count)
+
 -- two numbers for each header of a block of 1,024 bytes
-pub few-names : (b : List ℕ) (n : ℕ) → countOf b ≡ gives n → length b ≤ 1024 → 2 * n ≤ 682
+few-names : (b : List ℕ) (n : ℕ) → countOf b ≡ gives n → length b ≤ 1024 → 2 * n ≤ 682
 few-names b n e l =
     let g = counted b n e in
     omega (arith, headers-few b (g .it) (g .first), count b n e)
@@ -167,6 +175,14 @@ pub block-is : (limit : ℕ) (b : List ℕ) (n : ℕ) (r : Bool) → countOf b �
 block-is limit b n r e l d =
     let g = counted b n e in
     rw (g .first) (sym (by-names limit b (g .it) (g .first) l r d))
+
+-- a list with room for them is full for a malformed block alone
+pub full-block : (b before after : List ℕ) → length b ≤ 1024 → NamesFound b before after Full → 682 ≤ length before → blockOf 1024 b ≡ refused 20
+full-block b before after l f room = by (countOf b) refl
+  where
+    by : (o : Outcome ℕ) → countOf b ≡ o → blockOf 1024 b ≡ refused 20
+    by (refused k) e = malformed 1024 b k e
+    by (gives n) e = absurd (omega (arith, f .answer n e, few-names b n e l))
 
 -- Mounts.
 

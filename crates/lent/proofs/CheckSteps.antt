@@ -13,10 +13,9 @@ use Rattle.octets.specs.Text.{bytes}
 use Rattle.octets.specs.Outcome.{Outcome, refused, gives, then, need, given}
 use Rattle.octets.specs.Lists.{isNil, different}
 use Rattle.octets.proofs.Outcomes.{need-gives, given-gives, then-gives}
-use Rattle.headers.specs.Block.{Header, names, headersOf, parsed, wellFormed}
+use Rattle.headers.specs.Block.{Header, names, headersOf, parsed}
 use Rattle.headers.specs.Lookup.{valueIn}
 use Rattle.headers.specs.Claims.{Headed}
-use Rattle.headers.proofs.Claims.{well-formed-headed}
 use Rattle.lent.specs.Settings.{filled, orIn, sought, isPort, portIn, authOf, settingsOf}
 use Rattle.lent.specs.Lent.{Lent, blockOf, allMounts, mountsOf, lentOf}
 use Rattle.lent.specs.Places.{settingsAt, SettingsFound}
@@ -28,27 +27,21 @@ use Rattle.lent.specs.declared.settings.Settings.the-variants.{At as Set
 use Rattle.lent.proofs.BlockSteps.{block-headed, mounts-headed}
 
 module _ (facts site mounts : List ℕ) where
-  pub wrong-facts : refused 20 ≡ blockOf 1024 facts → LentFound facts site mounts (Refused 20)
+  pub wrong-facts : blockOf 1024 facts ≡ refused 20 → LentFound facts site mounts (Refused 20)
   unfolding lentOf
-  wrong-facts e = record { answer = sym (rw (← e)); inside = tt }
+  wrong-facts e = record { answer = sym (rw e); inside = tt }
 
   module _ (f : parsed facts ≡ blockOf 1024 facts) where
     facts-are : Headed facts
     facts-are = block-headed 1024 facts f
 
-    pub facts-well : wellFormed facts ≡ true
-    facts-well = well-formed-headed facts .1 facts-are
-
-    pub wrong-site : refused 20 ≡ blockOf 1024 site → LentFound facts site mounts (Refused 20)
+    pub wrong-site : blockOf 1024 site ≡ refused 20 → LentFound facts site mounts (Refused 20)
     unfolding lentOf
-    wrong-site e = record { answer = sym (rw (sym f ∙ facts-are .is, ← e)); inside = tt }
+    wrong-site e = record { answer = sym (rw (sym f ∙ facts-are .is, e)); inside = tt }
 
     module _ (g : parsed site ≡ blockOf 1024 site) where
       site-is : Headed site
       site-is = block-headed 1024 site g
-
-      pub site-well : wellFormed site ≡ true
-      site-well = well-formed-headed site .1 site-is
 
       pub wrong-mounts : refused 20 ≡ mountsOf mounts → LentFound facts site mounts (Refused 20)
       unfolding lentOf

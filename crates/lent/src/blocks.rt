@@ -1,46 +1,41 @@
 // Whether the three lent blocks are what they must be.
 ghost use mathlib.Core.Path.{_≡_};
 ghost use mathlib.Core.Bool.{true};
-ghost use Prim.Native.Nat.{_≤_};
-ghost use lib.ListN.{length};
 ghost use Rattle.octets.specs.Outcome.{gives, then, need};
 ghost use Rattle.headers.specs.Block.{parsed, wellFormed};
-ghost use Rattle.lent.specs.Lent.{blockOf, allMounts, mountsOf};
-use headers::block::Count;
+ghost use Rattle.lent.specs.Lent.{allMounts, mountsOf};
+ghost use Rattle.lent.specs.Blocks.{BlockFound};
 use headers::block::HeaderPlace;
-use headers::block::count_headers;
 use headers::block::header_at;
 use headers::names::Stored;
-use headers::names::names_differ_by;
 use headers::names::store_names;
 use headers::names::stored_differ;
 
-// Whether a block of at most 1,024 bytes, which has at most 341 headers, is one with no name twice in it. They are counted first.
-fn is_large(block: &[u8]) -> bool
-    requires { ⌜ length (now block) ≤ 1024 ⌝ }
-    ensures { λ r. ⌜ need r 20 (parsed (now (block .entry))) ≡ blockOf 1024 (now (block .entry)) ⌝ }
-{
-    let c = count_headers(block);
-    let Count::Headers(n) = c else {
-        return false;
-    };
-    let mut places = [0usize; 682];
-    names_differ_by(block, n, &mut places)
+pub enum Named {
+    // How many headers the block has, the places of whose names are stored.
+    Headers(usize),
+    // The list has no room for all of them.
+    Full,
+    Breach,
 }
 
-// Whether connection facts or site settings are a block of at most 1,024 bytes, no name twice in it. Most have at most 32 headers.
-pub fn is_block(block: &[u8]) -> bool
-    ensures { λ r. ⌜ need r 20 (parsed (now (block .entry))) ≡ blockOf 1024 (now (block .entry)) ⌝ }
+// Whether connection facts or site settings are a block of at most 1,024 bytes, no name twice in it. The places of its names are stored.
+pub fn store_block(block: &[u8], places: &mut [usize]) -> Named
+    ensures { λ r. ⌜ BlockFound (now (block .entry)) (now (places .entry)) (now (places .exit)) r ⌝ }
 {
     if 1024 < block.len() {
-        return false;
+        return Named::Breach;
     }
-    let mut few = [0usize; 64];
-    let s = store_names(block, &mut few);
+    let s = store_names(block, places);
     match s {
-        Stored::Refused(_) => false,
-        Stored::Full => is_large(block),
-        Stored::Headers(n) => stored_differ(block, &few, n),
+        Stored::Refused(_) => Named::Breach,
+        Stored::Full => Named::Full,
+        Stored::Headers(n) => {
+            if !stored_differ(block, places, n) {
+                return Named::Breach;
+            }
+            Named::Headers(n)
+        }
     }
 }
 

@@ -1,8 +1,8 @@
 // Finding the values that connection facts and site settings give.
 ghost use mathlib.Core.Path.{_≡_};
-ghost use mathlib.Core.Bool.{true, cond};
+ghost use mathlib.Core.Bool.{cond};
 ghost use lib.Dec.{eqb};
-ghost use Rattle.headers.specs.Block.{wellFormed};
+ghost use Rattle.headers.specs.Names.{NamesIn};
 ghost use Rattle.lent.specs.Settings.{isPort};
 ghost use Rattle.lent.specs.declared.settings.Value.the-variants.{At, Breach};
 ghost use Rattle.lent.specs.Places.{FactFound, AuthFound, SiteFound, ValueFound, PortFound, SettingsFound};
@@ -11,7 +11,7 @@ use crate::places::FactPlace;
 use crate::places::SettingPlaces;
 use crate::places::ValuePlace;
 use headers::lookup::Place;
-use headers::lookup::seek;
+use headers::lookup::seek_by;
 use octets::decimal;
 use octets::decimal::Number;
 
@@ -36,12 +36,14 @@ pub enum Settings {
     Breach,
 }
 
+// Each function below takes beside a block the places of its names, which were stored, and how many headers it has.
+
 // The value of a name in the connection facts, there and not empty.
-fn find_fact(facts: &[u8], name: &[u8]) -> Fact
-    requires { ⌜ wellFormed (now facts) ≡ true ⌝ }
+fn find_fact(facts: &[u8], facts_names: &[usize], n: usize, name: &[u8]) -> Fact
+    requires { ⌜ NamesIn (now facts) (now «facts_names») n ⌝ }
     ensures { λ r. ⌜ FactFound (now (facts .entry)) (now (name .entry)) r ⌝ }
 {
-    let p = seek(facts, name);
+    let p = seek_by(facts, facts_names, n, name);
     let Place::At { start, len } = p else {
         return Fact::Breach;
     };
@@ -52,12 +54,12 @@ fn find_fact(facts: &[u8], name: &[u8]) -> Fact
 }
 
 // AUTH_TYPE and REMOTE_USER, both there and not empty, or both absent.
-fn find_auth(facts: &[u8]) -> Auth
-    requires { ⌜ wellFormed (now facts) ≡ true ⌝ }
+fn find_auth(facts: &[u8], facts_names: &[usize], n: usize) -> Auth
+    requires { ⌜ NamesIn (now facts) (now «facts_names») n ⌝ }
     ensures { λ r. ⌜ AuthFound (now (facts .entry)) r ⌝ }
 {
-    let t = seek(facts, b"AUTH_TYPE");
-    let u = seek(facts, b"REMOTE_USER");
+    let t = seek_by(facts, facts_names, n, b"AUTH_TYPE");
+    let u = seek_by(facts, facts_names, n, b"REMOTE_USER");
     match t {
         Place::Refused(_) => Auth::Breach,
         Place::Absent => match u {
@@ -103,11 +105,11 @@ fn filled(site: bool, start: usize, len: usize) -> Value
 }
 
 // The value of a name in the site settings, there and not empty.
-fn find_site(site: &[u8], name: &[u8]) -> Value
-    requires { ⌜ wellFormed (now site) ≡ true ⌝ }
+fn find_site(site: &[u8], site_names: &[usize], m: usize, name: &[u8]) -> Value
+    requires { ⌜ NamesIn (now site) (now «site_names») m ⌝ }
     ensures { λ r. ⌜ SiteFound (now (site .entry)) (now (name .entry)) r ⌝ }
 {
-    let p = seek(site, name);
+    let p = seek_by(site, site_names, m, name);
     let Place::At { start, len } = p else {
         return Value::Breach;
     };
@@ -115,15 +117,23 @@ fn find_site(site: &[u8], name: &[u8]) -> Value
 }
 
 // The value of a name in the connection facts, or else in the site settings; there and not empty.
-fn find_value(facts: &[u8], site: &[u8], name: &[u8]) -> Value
-    requires { ⌜ (wellFormed (now facts) ≡ true) × (wellFormed (now site) ≡ true) ⌝ }
+fn find_value(
+    facts: &[u8],
+    facts_names: &[usize],
+    n: usize,
+    site: &[u8],
+    site_names: &[usize],
+    m: usize,
+    name: &[u8],
+) -> Value
+    requires { ⌜ NamesIn (now facts) (now «facts_names») n × NamesIn (now site) (now «site_names») m ⌝ }
     ensures { λ r. ⌜ ValueFound (now (facts .entry)) (now (site .entry)) (now (name .entry)) r ⌝ }
 {
-    let f = seek(facts, name);
+    let f = seek_by(facts, facts_names, n, name);
     match f {
         Place::At { start, len } => filled(false, start, len),
         Place::Refused(_) => Value::Breach,
-        Place::Absent => find_site(site, name),
+        Place::Absent => find_site(site, site_names, m, name),
     }
 }
 
@@ -148,11 +158,18 @@ fn is_port(v: &[u8]) -> bool
 }
 
 // The port's value.
-fn find_port(facts: &[u8], site: &[u8]) -> Value
-    requires { ⌜ (wellFormed (now facts) ≡ true) × (wellFormed (now site) ≡ true) ⌝ }
+fn find_port(
+    facts: &[u8],
+    facts_names: &[usize],
+    n: usize,
+    site: &[u8],
+    site_names: &[usize],
+    m: usize,
+) -> Value
+    requires { ⌜ NamesIn (now facts) (now «facts_names») n × NamesIn (now site) (now «site_names») m ⌝ }
     ensures { λ r. ⌜ PortFound (now (facts .entry)) (now (site .entry)) r ⌝ }
 {
-    let v = find_value(facts, site, b"SERVER_PORT");
+    let v = find_value(facts, facts_names, n, site, site_names, m, b"SERVER_PORT");
     let Value::At(p) = v else {
         return Value::Breach;
     };
@@ -171,27 +188,42 @@ fn find_port(facts: &[u8], site: &[u8]) -> Value
 }
 
 // The places of all values.
-pub fn find_settings(facts: &[u8], site: &[u8]) -> Settings
-    requires { ⌜ (wellFormed (now facts) ≡ true) × (wellFormed (now site) ≡ true) ⌝ }
+pub fn find_settings(
+    facts: &[u8],
+    facts_names: &[usize],
+    n: usize,
+    site: &[u8],
+    site_names: &[usize],
+    m: usize,
+) -> Settings
+    requires { ⌜ NamesIn (now facts) (now «facts_names») n × NamesIn (now site) (now «site_names») m ⌝ }
     ensures { λ r. ⌜ SettingsFound (now (facts .entry)) (now (site .entry)) r ⌝ }
 {
-    let n = find_value(facts, site, b"SERVER_NAME");
-    let Value::At(name) = n else {
+    let v = find_value(facts, facts_names, n, site, site_names, m, b"SERVER_NAME");
+    let Value::At(name) = v else {
         return Settings::Breach;
     };
-    let p = find_port(facts, site);
+    let p = find_port(facts, facts_names, n, site, site_names, m);
     let Value::At(port) = p else {
         return Settings::Breach;
     };
-    let s = find_value(facts, site, b"SERVER_SOFTWARE");
+    let s = find_value(
+        facts,
+        facts_names,
+        n,
+        site,
+        site_names,
+        m,
+        b"SERVER_SOFTWARE",
+    );
     let Value::At(software) = s else {
         return Settings::Breach;
     };
-    let r = find_fact(facts, b"REMOTE_ADDR");
+    let r = find_fact(facts, facts_names, n, b"REMOTE_ADDR");
     let Fact::At(addr) = r else {
         return Settings::Breach;
     };
-    let a = find_auth(facts);
+    let a = find_auth(facts, facts_names, n);
     let Auth::At(auth) = a else {
         return Settings::Breach;
     };

@@ -5,12 +5,11 @@ use Prim.Native.Nat.{_≤_}
 use native.Mathlib.Omega.{arith}
 use borrow.Author.Needs.{needs}
 use borrow.Author.Tests.{not-true, not-false}
-use Rattle.lent.proofs.BlockSteps.{long-mounts, other-mounts, equal-mounts, mounts-are, counted}
+use Rattle.lent.proofs.BlockSteps.{long-mounts, other-mounts, equal-mounts, mounts-are, well-counted}
 use Rattle.lent.proofs.blocks.is_mounts.Statement.{statement}
 use Rattle.lent.proofs.blocks.is_mounts.Tie as tie
 use Rattle.octets.specs.Outcome.{gives}
 use Rattle.headers.specs.Block.{countOf}
-use Rattle.headers.proofs.Claims.{well-formed-headed}
 
 -- the headers, where their names are stored
 count : (c : tie.After-known-told) → (countOf (c .before .before .before .before .before .before .before .before .args .block .now) ≡ gives (c .before .s .given .0 .0)) × (c .before .s .given .0 .0 ≤ 32)
@@ -45,9 +44,7 @@ returns-3 c =
     sym (equal-mounts _ _ (count k .0) (k .before .before .before .before .before .before .if1 .left) (c .before .stored-differ .ensures ∙ ap gives (not-true _ (c .if2 .taken))))
 
 all-mounts-requires : tie.Need-all-mounts-requires
-all-mounts-requires c κs =
-    let g = counted _ _ (count (c .before .before .before) .0) in
-    well-formed-headed _ .1 (record { hs = g .it; is = g .first })
+all-mounts-requires c κs = well-counted _ _ (count (c .before .before .before) .0)
 
 returns-4 : tie.Need-returns-4
 returns-4 c =

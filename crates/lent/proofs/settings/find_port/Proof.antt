@@ -15,7 +15,7 @@ use Rattle.lent.proofs.settings.find_port.Tie as tie
 -- the value, where the pattern matched
 found :
     (c : tie.After-known-told)
-    → (let a = c .before .before .before .before .before .before .before .args in
+    → (let a = c .before .before .before .before .before .before .before .before .before .args in
     ValueFound (a .facts .now) (a .site .now) (bytes "SERVER_PORT") (At (c .before .v .given .0 .0)))
 found c = rw (c .before .v .given .1) at (c .before .before .before .find-value .ensures)
 
@@ -52,14 +52,14 @@ is-port-requires c κs = search needs
 returns-2 : tie.Need-returns-2
 returns-2 c =
     let k = c .before .before .before .before .before in
-    let a = k .before .before .before .before .before .before .before .args in
+    let a = k .before .before .before .before .before .before .before .before .before .args in
     let p = k .before .v .given .0 .0 in
     other-port _ _ _ (found k) (site-port (a .facts .now) (a .site .now) p _ (c .before .before .before .if1 .taken) (sym (not-true _ (c .if2 .taken)) ∙ c .before .is-port .ensures))
 
 returns-3 : tie.Need-returns-3
 returns-3 c =
     let k = c .before .before .before .before .before in
-    let a = k .before .before .before .before .before .before .before .args in
+    let a = k .before .before .before .before .before .before .before .before .before .args in
     let p = k .before .v .given .0 .0 in
     is-port _ _ _ (found k) (site-port (a .facts .now) (a .site .now) p _ (c .before .before .before .if1 .taken) (sym (not-false _ (c .if2 .left)) ∙ c .before .is-port .ensures))
 
@@ -78,14 +78,14 @@ is-port-requires-2 c κs = search needs
 returns-4 : tie.Need-returns-4
 returns-4 c =
     let k = c .before .before .before .before .before in
-    let a = k .before .before .before .before .before .before .before .args in
+    let a = k .before .before .before .before .before .before .before .before .before .args in
     let p = k .before .v .given .0 .0 in
     other-port _ _ _ (found k) (fact-port (a .facts .now) (a .site .now) p _ (c .before .before .before .if1 .left) (sym (not-true _ (c .if3 .taken)) ∙ c .before .is-port2 .ensures))
 
 returns-5 : tie.Need-returns-5
 returns-5 c =
     let k = c .before .before .before .before .before in
-    let a = k .before .before .before .before .before .before .before .args in
+    let a = k .before .before .before .before .before .before .before .before .before .args in
     let p = k .before .v .given .0 .0 in
     is-port _ _ _ (found k) (fact-port (a .facts .now) (a .site .now) p _ (c .before .before .before .if1 .left) (sym (not-false _ (c .if3 .left)) ∙ c .before .is-port2 .ensures))
 

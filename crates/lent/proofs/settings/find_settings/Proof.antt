@@ -1,5 +1,6 @@
 -- `lent::settings::find_settings` meets its contract.
 -- Assumes nothing.
+use Rattle.lent.proofs.BlockSteps.{well-named}
 use Rattle.lent.proofs.SettingSteps.{no-name, no-port, no-software, no-addr, wrong-auth, all-found}
 use Rattle.lent.specs.Places.{FactFound, ValueFound, PortFound}
 use Rattle.lent.specs.declared.settings.Fact.the-variants.{At as FactAt}
@@ -12,23 +13,23 @@ use Rattle.lent.proofs.settings.find_settings.Tie as tie
 -- what was found, where the patterns matched
 name-got :
     (c : tie.After-known-told)
-    → (let a = c .before .before .before .before .before .before .before .args in
-    ValueFound (a .facts .now) (a .site .now) (bytes "SERVER_NAME") (ValueAt (c .before .n .given .0 .0)))
-name-got c = rw (c .before .n .given .1) at (c .before .before .before .find-value .ensures)
+    → (let a = c .before .before .before .before .before .before .before .before .before .args in
+    ValueFound (a .facts .now) (a .site .now) (bytes "SERVER_NAME") (ValueAt (c .before .v .given .0 .0)))
+name-got c = rw (c .before .v .given .1) at (c .before .before .before .find-value .ensures)
 
 port-got :
     (c : tie.After-known-told2)
-    → (let a = c .before .before .before .before .before .before .before .before .before .before .before .args in
+    → (let a = c .before .before .before .before .before .before .before .before .before .before .before .before .before .args in
     PortFound (a .facts .now) (a .site .now) (ValueAt (c .before .p .given .0 .0)))
 port-got c = rw (c .before .p .given .1) at (c .before .before .before .find-port .ensures)
 
 software-got :
     (c : tie.After-known-told3)
-    → (let a = c .before .before .before .before .before .before .before .before .before .before .before .before .before .before .before .before .args in
+    → (let a = c .before .before .before .before .before .before .before .before .before .before .before .before .before .before .before .before .before .before .args in
     ValueFound (a .facts .now) (a .site .now) (bytes "SERVER_SOFTWARE") (ValueAt (c .before .s .given .0 .0)))
 software-got c = rw (c .before .s .given .1) at (c .before .before .before .find-value2 .ensures)
 
-addr-got : (c : tie.After-known-told4) → FactFound (c .before .before .before .before .before .before .before .before .before .before .before .before .before .before .before .before .before .before .before .before .before .args .facts .now) (bytes "REMOTE_ADDR") (FactAt (c .before .r .given .0 .0))
+addr-got : (c : tie.After-known-told4) → FactFound (c .before .before .before .before .before .before .before .before .before .before .before .before .before .before .before .before .before .before .before .before .before .before .before .args .facts .now) (bytes "REMOTE_ADDR") (FactAt (c .before .r .given .0 .0))
 addr-got c = rw (c .before .r .given .1) at (c .before .before .before .find-fact .ensures)
 
 slice-aggregate-find-value : tie.Need-slice-aggregate-find-value
@@ -37,16 +38,16 @@ slice-aggregate-find-value c = search needs
 find-value-requires : tie.Need-find-value-requires
 find-value-requires c κs = search needs
 
-enum-known-n : tie.Need-enum-known-n
-enum-known-n c = search needs
+enum-known-v : tie.Need-enum-known-v
+enum-known-v c = search needs
 
 enum-told : tie.Need-enum-told
 enum-told c = search needs
 
 returns : tie.Need-returns
 returns c =
-    let s = c .before .before .before .before .before .before in
-    no-name _ _ (s .pre .0) (s .pre .1) (rw (c .enum-told .given .1) at (c .before .before .find-value .ensures))
+    let s = c .before .before .before .before .before .before .before .before in
+    no-name _ _ (well-named _ _ _ (s .pre .0)) (well-named _ _ _ (s .pre .1)) (rw (c .enum-told .given .1) at (c .before .before .find-value .ensures))
 
 find-port-requires : tie.Need-find-port-requires
 find-port-requires c κs = search needs
@@ -60,8 +61,8 @@ enum-told-2 c = search needs
 returns-2 : tie.Need-returns-2
 returns-2 c =
     let n = c .before .before .before in
-    let s = n .before .before .before .before .before .before .before in
-    no-port _ _ (s .pre .0) (s .pre .1) _ (name-got n) (rw (c .enum-told2 .given .1) at (c .before .before .find-port .ensures))
+    let s = n .before .before .before .before .before .before .before .before .before in
+    no-port _ _ (well-named _ _ _ (s .pre .0)) (well-named _ _ _ (s .pre .1)) _ (name-got n) (rw (c .enum-told2 .given .1) at (c .before .before .find-port .ensures))
 
 slice-aggregate-find-value-2 : tie.Need-slice-aggregate-find-value-2
 slice-aggregate-find-value-2 c = search needs
@@ -79,14 +80,14 @@ returns-3 : tie.Need-returns-3
 returns-3 c =
     let p = c .before .before .before .before in
     let n = p .before .before .before .before in
-    let s = n .before .before .before .before .before .before .before in
-    no-software _ _ (s .pre .0) (s .pre .1) _ (name-got n) _ (port-got p) (rw (c .enum-told3 .given .1) at (c .before .before .find-value2 .ensures))
+    let s = n .before .before .before .before .before .before .before .before .before in
+    no-software _ _ (well-named _ _ _ (s .pre .0)) (well-named _ _ _ (s .pre .1)) _ (name-got n) _ (port-got p) (rw (c .enum-told3 .given .1) at (c .before .before .find-value2 .ensures))
 
 slice-aggregate-find-fact : tie.Need-slice-aggregate-find-fact
 slice-aggregate-find-fact c = search needs
 
 find-fact-requires : tie.Need-find-fact-requires
-find-fact-requires c κs = search needs
+find-fact-requires c κs = c .before .before .before .before .before .before .before .before .before .before .before .before .before .before .before .before .before .before .before .pre .0
 
 enum-known-r : tie.Need-enum-known-r
 enum-known-r c = search needs
@@ -99,11 +100,11 @@ returns-4 c =
     let w = c .before .before .before .before in
     let p = w .before .before .before .before .before in
     let n = p .before .before .before .before in
-    let s = n .before .before .before .before .before .before .before in
-    no-addr _ _ (s .pre .0) (s .pre .1) _ (name-got n) _ (port-got p) _ (software-got w) (rw (c .enum-told4 .given .1) at (c .before .before .find-fact .ensures))
+    let s = n .before .before .before .before .before .before .before .before .before in
+    no-addr _ _ (well-named _ _ _ (s .pre .0)) (well-named _ _ _ (s .pre .1)) _ (name-got n) _ (port-got p) _ (software-got w) (rw (c .enum-told4 .given .1) at (c .before .before .find-fact .ensures))
 
 find-auth-requires : tie.Need-find-auth-requires
-find-auth-requires c κs = c .before .before .before .before .before .before .before .before .before .before .before .before .before .before .before .before .before .before .before .before .before .pre .0
+find-auth-requires c κs = c .before .before .before .before .before .before .before .before .before .before .before .before .before .before .before .before .before .before .before .before .before .before .before .pre .0
 
 enum-known-a : tie.Need-enum-known-a
 enum-known-a c = search needs
@@ -117,8 +118,8 @@ returns-5 c =
     let w = a .before .before .before .before .before in
     let p = w .before .before .before .before .before in
     let n = p .before .before .before .before in
-    let s = n .before .before .before .before .before .before .before in
-    wrong-auth _ _ (s .pre .0) (s .pre .1) _ (name-got n) _ (port-got p) _ (software-got w) _ (addr-got a) (rw (c .enum-told5 .given .1) at (c .before .before .find-auth .ensures))
+    let s = n .before .before .before .before .before .before .before .before .before in
+    wrong-auth _ _ (well-named _ _ _ (s .pre .0)) (well-named _ _ _ (s .pre .1)) _ (name-got n) _ (port-got p) _ (software-got w) _ (addr-got a) (rw (c .enum-told5 .given .1) at (c .before .before .find-auth .ensures))
 
 returns-6 : tie.Need-returns-6
 returns-6 c =
@@ -126,8 +127,8 @@ returns-6 c =
     let w = a .before .before .before .before .before in
     let p = w .before .before .before .before .before in
     let n = p .before .before .before .before in
-    let s = n .before .before .before .before .before .before .before in
-    all-found _ _ (s .pre .0) (s .pre .1) _ (name-got n) _ (port-got p) _ (software-got w) _ (addr-got a) _ (rw (c .before .a .given .1) at (c .before .before .before .find-auth .ensures))
+    let s = n .before .before .before .before .before .before .before .before .before in
+    all-found _ _ (well-named _ _ _ (s .pre .0)) (well-named _ _ _ (s .pre .1)) _ (name-got n) _ (port-got p) _ (software-got w) _ (addr-got a) _ (rw (c .before .a .given .1) at (c .before .before .before .find-auth .ensures))
 
 pub find-settings-spec : {M : Type 1} → statement M
 find-settings-spec =
@@ -135,7 +136,7 @@ find-settings-spec =
     (tie.spec
     slice-aggregate-find-value
     find-value-requires
-    enum-known-n
+    enum-known-v
     enum-told
     returns
     find-port-requires

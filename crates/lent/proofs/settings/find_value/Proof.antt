@@ -2,6 +2,7 @@
 -- Assumes nothing.
 use mathlib.Core.Path.{sym, ap, _∙_}
 use Prim.{absurd}
+use Rattle.lent.proofs.BlockSteps.{well-named}
 use Rattle.lent.proofs.Searches.{always-looked}
 use Rattle.lent.proofs.SettingSteps.{in-facts-at, not-in-facts}
 use Rattle.headers.specs.Lookup.{placeOutcome}
@@ -9,8 +10,8 @@ use borrow.Author.Needs.{needs}
 use Rattle.lent.proofs.settings.find_value.Statement.{statement}
 use Rattle.lent.proofs.settings.find_value.Tie as tie
 
-seek-requires : tie.Need-seek-requires
-seek-requires c κs = search needs
+seek-by-requires : tie.Need-seek-by-requires
+seek-by-requires c κs = search needs
 
 enum-known-f : tie.Need-enum-known-f
 enum-known-f c = search needs
@@ -29,24 +30,24 @@ find-site-requires c κs = search needs
 
 returns : tie.Need-returns
 returns c =
-    let s = c .before .before .before .before .before .before .before .before in
-    in-facts-at _ _ (s .pre .0) (s .pre .1) _ _ _ (sym (c .before .before .before .before .seek .ensures) ∙ ap placeOutcome (c .before .before .f .given .1)) (c .filled .ensures)
+    let s = c .before .before .before .before .before .before .before .before .before .before in
+    in-facts-at _ _ (well-named _ _ _ (s .pre .0)) (well-named _ _ _ (s .pre .1)) _ _ _ (sym (c .before .before .before .before .seek-by .ensures) ∙ ap placeOutcome (c .before .before .f .given .1)) (c .filled .ensures)
 
 returns-2 : tie.Need-returns-2
 returns-2 c =
-    let s = c .before .before .before .before .before .before in
-    absurd (always-looked _ _ (s .pre .0) _ (sym (c .before .before .seek .ensures) ∙ ap placeOutcome (c .enum-told .given .1)))
+    let s = c .before .before .before .before .before .before .before .before in
+    absurd (always-looked _ _ (well-named _ _ _ (s .pre .0)) _ (sym (c .before .before .seek-by .ensures) ∙ ap placeOutcome (c .enum-told .given .1)))
 
 returns-3 : tie.Need-returns-3
 returns-3 c =
-    let s = c .before .before .before .before .before .before .before in
-    not-in-facts _ _ (s .pre .0) (s .pre .1) _ _ (sym (c .before .before .before .seek .ensures) ∙ ap placeOutcome (c .before .enum-told2 .given .1)) (c .find-site .ensures)
+    let s = c .before .before .before .before .before .before .before .before .before in
+    not-in-facts _ _ (well-named _ _ _ (s .pre .0)) (well-named _ _ _ (s .pre .1)) _ _ (sym (c .before .before .before .seek-by .ensures) ∙ ap placeOutcome (c .before .enum-told2 .given .1)) (c .find-site .ensures)
 
 pub find-value-spec : {M : Type 1} → statement M
 find-value-spec =
     tie.close
     (tie.spec
-    seek-requires
+    seek-by-requires
     enum-known-f
     filled-requires
     enum-told
