@@ -1,13 +1,13 @@
 -- Laws of writing over a buffer: byte after byte, piece after piece, and from the last byte down.
 -- Assumes nothing.
 use mathlib.Core.Path.{_≡_, refl, sym, ap, _∙_}
-use mathlib.Core.List.{List, [], _∷_, _++_, append-assoc}
+use mathlib.Core.List.{List, [], _∷_, _++_, append-assoc, append-nil}
 use Prim.Native.Nat.{ℕ, suc, _+_, _-_, _≤_, _<_}
 use native.Mathlib.Nat.{add-assoc, add-zero}
 use native.Mathlib.Numerals.{add-one}
 use native.Mathlib.Omega.{arith}
-use lib.ListN.{length, take, drop, set, getD, length-append, length-take, length-drop, take-append-drop}
-use lib.Seq.{take-at, drop-at, drop-drop, paste, take-length, take-suc, getD-drop, getD-append-add, set-split, take-set-le}
+use lib.ListN.{length, take, drop, set, getD, length-append, length-take, length-drop, take-append-drop, drop-of-length-le}
+use lib.Seq.{take-at, drop-at, drop-drop, paste, take-add, take-length, take-suc, getD-drop, getD-append-add, set-split, take-set-le}
 use Rattle.octets.specs.Copy.{over, Wrote}
 
 -- a loop that stores byte after byte: `paste d at s i` is d with the first i bytes of s over it
@@ -99,6 +99,29 @@ and-then {d} {at} {p} w room q d″ r′ e =
       ends = simp length-append (omega (arith, w .ends, e .ends));
       holds = e .holds ∙ rw (w .holds, w .ends) (over-over d at p room q);
     }
+
+-- a list written chunk after chunk: its first i bytes are written, then n more, or all the rest
+module _ {d : List ℕ} {at : ℕ} (s : List ℕ) (i : ℕ) {d′ : List ℕ} (w : Wrote d at (take i s) d′ (at + i)) (room : at + length s ≤ length d) (d″ : List ℕ) (r : ℕ) where
+  pub chunk-then : (n : ℕ) → i + n ≤ length s → Wrote d′ (at + i) (take n (drop i s)) d″ r → Wrote d at (take (i + n) s) d″ (at + (i + n))
+  chunk-then n h e =
+      let l : length (take i s) ≡ i = simp length-take (omega arith) in
+      record {
+        ends = simp length-take (omega arith);
+        holds = rw (take-add i n s) (and-then w (omega (arith, l)) (take n (drop i s)) d″ r e .holds);
+      }
+
+  pub rest-then : i ≤ length s → Wrote d′ (at + i) (take (length s - i) (drop i s)) d″ r → Wrote d at s d″ r
+  rest-then h e =
+      let l : length (take i s) ≡ i = simp length-take (omega arith) in
+      let all : take (length s - i) (drop i s) ≡ drop i s = ap (λ (k : ℕ). take k (drop i s)) (sym (length-drop i s)) ∙ take-length (drop i s) in
+      rw (all, take-append-drop i s) at (and-then w (omega (arith, l)) (take (length s - i) (drop i s)) d″ r e)
+
+-- a list written over the whole of a buffer
+pub over-all : (d p : List ℕ) → length p ≡ length d → over d 0 p ≡ p
+unfolding over
+over-all d p h =
+    let n : length d ≤ 0 + length p = omega arith in
+    rw (drop-of-length-le d n) (append-nil p)
 
 -- Moving bytes to the front.
 

@@ -9,6 +9,7 @@ ghost use Rattle.scgi.specs.Write.{inRoom, WrittenOut, Written};
 use crate::check::Checked;
 use crate::check::check_block;
 use octets::copy::put;
+use octets::copy::put_large;
 use octets::decimal;
 
 pub enum Writing {
@@ -38,7 +39,7 @@ pub fn write_parts(block: &[u8], body: &[u8], out: &mut [u8]) -> Writing
         return Writing::Refused(21);
     }
     let at = put_netstring(out, block);
-    Writing::Bytes(put(out, at, body))
+    Writing::Bytes(put_large(out, at, body))
 }
 
 // Writes the request of a block and a body to the start of out.

@@ -42,8 +42,8 @@ returns c = no-room (netstring (c .before .before .before .before .before .args 
 put-netstring-requires : tie.Need-put-netstring-requires
 put-netstring-requires c κs = omega (arith, room (c .before), length-append (netstring (c .before .before .before .before .before .before .args .block .now)) (c .before .before .before .before .before .before .args .body .now))
 
-put-requires : tie.Need-put-requires
-put-requires c κs = omega (arith, room (c .before .before .before .before .before), length-append (netstring (c .before .before .before .before .before .before .before .before .before .before .args .block .now)) (c .before .before .before .before .before .before .before .before .before .before .args .body .now), c .before .before .before .put-netstring .ensures .ends)
+put-large-requires : tie.Need-put-large-requires
+put-large-requires c κs = omega (arith, room (c .before .before .before .before .before), length-append (netstring (c .before .before .before .before .before .before .before .before .before .before .args .block .now)) (c .before .before .before .before .before .before .before .before .before .before .args .body .now), c .before .before .before .put-netstring .ensures .ends)
 
 same-length : tie.Need-same-length
 same-length c = search needs
@@ -52,7 +52,7 @@ returns-2 : tie.Need-returns-2
 returns-2 c =
     let f = c .before .before .before .before .before .before .before .before in
     has-room (netstring (c .before .before .before .before .before .before .before .before .before .before .before .before .before .args .block .now) ++ c .before .before .before .before .before .before .before .before .before .before .before .before .before .args .body .now) (c .before .before .before .before .before .before .before .before .before .before .before .before .before .args .out .now) _ _ (room f)
-    (and-then (c .before .before .before .before .before .before .put-netstring .ensures) (omega (arith, room f, length-append (netstring (c .before .before .before .before .before .before .before .before .before .before .before .before .before .args .block .now)) (c .before .before .before .before .before .before .before .before .before .before .before .before .before .args .body .now))) _ _ _ (c .before .before .put .ensures))
+    (and-then (c .before .before .before .before .before .before .put-netstring .ensures) (omega (arith, room f, length-append (netstring (c .before .before .before .before .before .before .before .before .before .before .before .before .before .args .block .now)) (c .before .before .before .before .before .before .before .before .before .before .before .before .before .args .body .now))) _ _ _ (c .before .before .put-large .ensures))
 
 pub write-parts-spec : {M : Type 1} → statement M
 write-parts-spec =
@@ -64,6 +64,6 @@ write-parts-spec =
     add-size-3
     returns
     put-netstring-requires
-    put-requires
+    put-large-requires
     same-length
     returns-2)
