@@ -12,7 +12,7 @@
  * - Memory lent for writing overlaps no other memory lent to the same call. Memory lent for reading may overlap other memory
  *   lent for reading.
  *
- * The calls keep no state, allocate nothing, and call nothing but memcpy and memset. They may run in many threads at once.
+ * The calls keep no state, allocate nothing, and call nothing but memcpy, memmove and memset. They may run in many threads at once.
  * Their scratch memory is on the stack: 64 KiB of it are enough. Every call ends, whatever the bytes.
  *
  * A block is zero or more of: name, NUL, value, NUL. Names are not empty, values may be.
