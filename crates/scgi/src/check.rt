@@ -118,14 +118,14 @@ pub fn check_block(block: &[u8]) -> Checked
 {
     let mut few = [0usize; 64];
     let s = store_names(block, &mut few);
-    match s {
-        Stored::Refused(k) => Checked::Refused(k),
-        Stored::Full => check_large(block),
-        Stored::Headers(n) => {
-            if !stored_differ(block, &few, n) {
-                return Checked::Refused(7);
-            }
-            check_rest(block)
-        }
+    let Stored::Headers(n) = s else {
+        let Stored::Refused(k) = s else {
+            return check_large(block);
+        };
+        return Checked::Refused(k);
+    };
+    if !stored_differ(block, &few, n) {
+        return Checked::Refused(7);
     }
+    check_rest(block)
 }

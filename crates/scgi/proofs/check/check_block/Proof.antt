@@ -15,10 +15,10 @@ use Rattle.scgi.specs.Check.{checkBlock}
 
 -- the headers, where their names are stored
 count :
-    (c : tie.After-known-told2)
-    → (countOf (c .before .before .before .before .before .before .before .args .block .now) ≡ gives (c .before .s2 .given .0 .0)) × (c .before .s2 .given .0 .0 ≤ 128)
+    (c : tie.After-known-told)
+    → (countOf (c .before .before .before .before .before .before .before .args .block .now) ≡ gives (c .before .s .given .0 .0)) × (c .before .s .given .0 .0 ≤ 128)
 count c =
-    let f = rw (c .before .s2 .given .1) at (c .before .before .before .before .store-names .ensures) in
+    let f = rw (c .before .s .given .1) at (c .before .before .before .before .store-names .ensures) in
     (f .answer .count, omega (arith, f .answer .room))
 
 slice-aggregate-store-names : tie.Need-slice-aggregate-store-names
@@ -30,37 +30,34 @@ store-names-requires c κs = search needs
 enum-known-s : tie.Need-enum-known-s
 enum-known-s c = search needs
 
-enum-told : tie.Need-enum-told
-enum-told c = search needs
+enum-known-s-2 : tie.Need-enum-known-s-2
+enum-known-s-2 c = search needs
 
 check-large-requires : tie.Need-check-large-requires
 check-large-requires c κs = search needs
 
-enum-known-s-2 : tie.Need-enum-known-s-2
-enum-known-s-2 c = search needs
+returns : tie.Need-returns
+returns c = search needs
+
+returns-2 : tie.Need-returns-2
+unfolding checkBlock
+returns-2 c =
+    let f = rw (c .before .s2 .given .1) at (c .before .before .before .before .before .store-names .ensures) in
+    sym (count-refused _ _ _ (f .answer))
 
 slice-aggregate-stored-differ : tie.Need-slice-aggregate-stored-differ
 slice-aggregate-stored-differ c = search needs
 
 stored-differ-requires : tie.Need-stored-differ-requires
-stored-differ-requires c κs = record { before = _; kept = (rw (c .before .before .s2 .given .1) at (c .before .before .before .before .before .store-names .ensures)) .answer }
+stored-differ-requires c κs = record { before = _; kept = (rw (c .before .before .s .given .1) at (c .before .before .before .before .before .store-names .ensures)) .answer }
 
-returns : tie.Need-returns
-returns c =
+returns-3 : tie.Need-returns-3
+returns-3 c =
     let k = c .before .before .before in
     sym (equal-names _ _ (count k .0) (count k .1) (c .before .stored-differ .ensures ∙ ap gives (not-true _ (c .if1 .taken))))
 
 check-rest-requires : tie.Need-check-rest-requires
 check-rest-requires c κs = c .before .stored-differ .ensures ∙ ap gives (not-false _ (c .if1 .left))
-
-returns-2 : tie.Need-returns-2
-unfolding checkBlock
-returns-2 c =
-    let f = rw (c .before .s .given .1) at (c .before .before .before .before .store-names .ensures) in
-    sym (count-refused _ _ _ (f .answer))
-
-returns-3 : tie.Need-returns-3
-returns-3 c = search needs
 
 returns-4 : tie.Need-returns-4
 returns-4 c =
@@ -75,13 +72,12 @@ check-block-spec =
     slice-aggregate-store-names
     store-names-requires
     enum-known-s
-    enum-told
-    check-large-requires
     enum-known-s-2
+    check-large-requires
+    returns
+    returns-2
     slice-aggregate-stored-differ
     stored-differ-requires
-    returns
-    check-rest-requires
-    returns-2
     returns-3
+    check-rest-requires
     returns-4)
