@@ -2,6 +2,7 @@
 ghost use mathlib.Core.Path.{_≡_};
 ghost use Prim.Native.Nat.{_<_};
 ghost use lib.ListN.{length};
+ghost use Rattle.octets.specs.Outcome.{refusalOf};
 ghost use Rattle.headers.specs.Block.{HeaderFound, countOutcome, countOf};
 use octets::scan::find;
 
@@ -36,6 +37,18 @@ pub fn header_at(block: &[u8], at: usize) -> HeaderPlace
 pub enum Count {
     Headers(usize),
     Refused(u8),
+}
+
+impl Count {
+    // The number of the refusal.
+    pub fn number(self) -> u8
+        ensures { λ r. ⌜ r ≡ refusalOf (countOutcome self) ⌝ }
+    {
+        match self {
+            Count::Headers(_) => 0,
+            Count::Refused(n) => n,
+        }
+    }
 }
 
 // How many headers a block has.

@@ -8,6 +8,11 @@ pub data Outcome (A : Type 0) : Type 0 where
   refused : ℕ → Outcome A
   gives : A → Outcome A
 
+-- the number of a refusal; 0, which no refusal has, where there is none
+abbrev pub refusalOf : {A : Type 0} → Outcome A → ℕ
+refusalOf (refused n) = n
+refusalOf (gives a) = 0
+
 -- the next step, where the one before gave an answer: "A refusal by a lower step is handed up as it is"
 abbrev pub then : {A B : Type 0} → Outcome A → (A → Outcome B) → Outcome B
 then (refused n) f = refused n
