@@ -123,6 +123,10 @@ over-all d p h =
     let n : length d ≤ 0 + length p = omega arith in
     rw (drop-of-length-le d n) (append-nil p)
 
+-- a list written to the front of a buffer is the front of that
+pub front-is : (d p : List ℕ) {d′ : List ℕ} {r : ℕ} → length p ≤ length d → Wrote d 0 p d′ r → take r d′ ≡ p
+front-is d p h w = rw (w .ends, w .holds) (before d 0 p (omega arith))
+
 -- Moving bytes to the front.
 
 behind-front : (d p : List ℕ) (j : ℕ) → length p ≤ j → getD (over d 0 p) j 0 ≡ getD d j 0
@@ -161,3 +165,46 @@ pub over-rest :
 over-rest d at p room n h =
     let e : at + length p + (n - (at + length p)) ≡ n = omega arith in
     ap (λ (m : ℕ). drop m (over d at p)) (sym e) ∙ after d at p room (n - (at + length p)) ∙ ap (λ (m : ℕ). drop m d) e
+
+-- Bytes written twice.
+
+-- what stands before a piece is as it was
+pub over-front : (d : List ℕ) (at : ℕ) (p : List ℕ) → at ≤ length d → take at (over d at p) ≡ take at d
+unfolding over
+over-front d at p h = take-at (take at d) (p ++ drop (at + length p) d) at (simp length-take (omega arith))
+
+-- a piece over another that is not longer
+over-twice :
+    (d : List ℕ) (at : ℕ) (p q : List ℕ) → length p ≤ length q → at + length q ≤ length d → over (over d at p) at q ≡ over d at q
+unfolding over
+over-twice d at p q h room =
+    ap (λ (t : List ℕ). t ++ (q ++ drop (at + length q) (over d at p))) (over-front d at p (omega arith))
+    ∙ ap (λ (t : List ℕ). take at d ++ (q ++ t)) (over-rest d at p (omega arith) (at + length q) (omega arith))
+
+-- the first j bytes of a list, and then all from a place i on that is not behind them
+pub over-again :
+    (d : List ℕ) (at : ℕ) (s : List ℕ) (i j : ℕ) → i ≤ j → j ≤ length s → at + length s ≤ length d
+    → over (over d at (take j s)) (at + i) (drop i s) ≡ over d at s
+over-again d at s i j h l room =
+    let n : length (take i s) ≡ i = simp length-take (omega arith) in
+    let m : length (take (j - i) (drop i s)) ≡ j - i = simp (length-take, length-drop) (omega arith) in
+    let k : length (drop i s) ≡ length s - i = length-drop i s in
+    let e : i + (j - i) ≡ j = omega arith in
+    let parted : take j s ≡ take i s ++ take (j - i) (drop i s) = ap (λ (x : ℕ). take x s) (sym e) ∙ take-add i (j - i) s in
+    let d₁ = over d at (take i s) in
+    let q : length d₁ ≡ length d = length-over d at (take i s) (omega arith) in
+    let first : over d at (take j s) ≡ over d₁ (at + i) (take (j - i) (drop i s)) =
+    rw parted (sym (over-over d at (take i s) (omega arith) (take (j - i) (drop i s))) ∙ rw n) in
+    rw first
+    (over-twice d₁ (at + i) (take (j - i) (drop i s)) (drop i s) (omega arith) (omega arith)
+    ∙ ap (λ (x : ℕ). over d₁ (at + x) (drop i s)) (sym n) ∙ over-over d at (take i s) (omega arith) (drop i s) ∙ ap (over d at) (take-append-drop i s))
+
+-- the same of writes
+pub and-again :
+    {d : List ℕ} {at : ℕ} {s d′ : List ℕ} {r : ℕ} (i j : ℕ) → Wrote d at (take j s) d′ r → i ≤ j → j ≤ length s
+    → at + length s ≤ length d → (d″ : List ℕ) (r′ : ℕ) → Wrote d′ (at + i) (drop i s) d″ r′ → Wrote d at s d″ r′
+and-again {d} {at} {s} i j w h l room d″ r′ e =
+    record {
+      ends = simp length-drop at (e .ends) ∙ omega arith;
+      holds = e .holds ∙ rw (w .holds) (over-again d at s i j h l room);
+    }

@@ -17,30 +17,6 @@ pub fn put(out: &mut [u8], at: usize, src: &[u8]) -> usize
     at + i
 }
 
-// Writes 1,024 bytes into out from at on, by way of a copy of their own: of that the compiler knows that it does not overlap out, so that it
-// moves the bytes at once.
-fn put_chunk(out: &mut [u8], at: usize, src: &[u8]) -> usize
-    requires { ⌜ (length (now src) ≡ 1024) × (at + 1024 ≤ length (now out)) ⌝ }
-    ensures { λ r. ⌜ Wrote (now (out .entry)) at (now (src .entry)) (now (out .exit)) r ⌝ }
-{
-    let mut chunk = [0u8; 1024];
-    put(&mut chunk, 0, src);
-    put(out, at, &chunk)
-}
-
-// The same as put, for many bytes: chunk by chunk.
-pub fn put_large(out: &mut [u8], at: usize, src: &[u8]) -> usize
-    requires { ⌜ at + length (now src) ≤ length (now out) ⌝ }
-    ensures { λ r. ⌜ Wrote (now (out .entry)) at (now (src .entry)) (now (out .exit)) r ⌝ }
-{
-    let mut i: usize = 0;
-    while 1024 <= src.len() - i {
-        put_chunk(out, at + i, &src[i..i + 1024]);
-        i += 1024;
-    }
-    put(out, at + i, &src[i..])
-}
-
 // Moves the bytes from..to of a buffer to its front.
 pub fn move_front(buf: &mut [u8], from: usize, to: usize)
     requires { ⌜ (from ≤ to) × (to ≤ length (now buf)) ⌝ }

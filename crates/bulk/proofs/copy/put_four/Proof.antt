@@ -1,11 +1,11 @@
--- `octets::copy::put_chunk` meets its contract.
+-- `bulk::copy::put_four` meets its contract.
 -- Assumes nothing.
 use mathlib.Core.Path.{_∙_}
 use lib.ListN.{replicate}
 use borrow.Author.Needs.{needs}
 use Rattle.octets.proofs.Copies.{over-all}
-use Rattle.octets.proofs.copy.put_chunk.Statement.{statement}
-use Rattle.octets.proofs.copy.put_chunk.Tie as tie
+use Rattle.bulk.proofs.copy.put_four.Statement.{statement}
+use Rattle.bulk.proofs.copy.put_four.Tie as tie
 
 slice-aggregate-put : tie.Need-slice-aggregate-put
 slice-aggregate-put c = search needs
@@ -27,8 +27,8 @@ returns c =
     let s = c .before .before .before .before .before .before .before .before .before .before in
     rw (c .before .before .before .before .before .before .put .ensures .holds ∙ over-all _ (s .args .src .now) (s .pre .0)) at (c .before .before .put2 .ensures)
 
-pub put-chunk-spec : {M : Type 1} → statement M
-put-chunk-spec =
+pub put-four-spec : {M : Type 1} → statement M
+put-four-spec =
     tie.close
     (tie.spec
     slice-aggregate-put
