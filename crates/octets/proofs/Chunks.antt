@@ -10,7 +10,7 @@ use lib.ListN.{length, take, drop, getD, length-drop, drop-of-length-le}
 use lib.Seq.{drop-drop}
 use Rattle.octets.specs.Compare.{sameBytes}
 use Rattle.octets.specs.Kinds.{isValue}
-use Rattle.octets.specs.Scan.{run, allOf}
+use Rattle.octets.specs.Scan.{run, allOf, other}
 use Rattle.octets.proofs.Bools.{and-left, and-right, or-false}
 use Rattle.octets.proofs.ByteRules.{allBelow, below}
 use Rattle.octets.proofs.Lists.{next, part-first}
@@ -67,6 +67,14 @@ module _ (p : ℕ → Bool) (s : List ℕ) (i n : ℕ) where
   pub any-end : (k : ℕ) (bad : Bool) {whole : Bool} → n ≤ k → whole ≡ bad || not (allOf p (left s i n k)) → bad ≡ whole
   unfolding allOf
   any-end k bad {whole} h e = sym (e ∙ ap (λ (t : List ℕ). bad || not (allOf p t)) (left-none s i n k h) ∙ or-false bad)
+
+-- a byte that is x fails the test for another byte
+pub other-not : (x b : ℕ) → eqb b x ≡ not (other x b)
+other-not x b = not-not (eqb b x)
+  where
+    not-not : (t : Bool) → t ≡ not (not t)
+    not-not true = refl
+    not-not false = refl
 
 -- whether the bytes are those of a list t of n bytes
 
