@@ -1,4 +1,5 @@
-//! Links the archive of the calls: ../target/staticlib/libcapi.a, or libcapi.a in the folder that OY_ARCHIVE_DIR names.
+//! Links the archive of the calls: ../target/staticlib/libcapi.a, or libcapi.a in the folder that OY_ARCHIVE_DIR names; and for the benchmarks
+//! the C peer, libpeer.a in the folder that OY_PEER_DIR names, where it is set.
 use std::env;
 use std::path::PathBuf;
 
@@ -18,4 +19,13 @@ fn main() {
     }
     println!("cargo:rustc-link-search=native={}", folder.display());
     println!("cargo:rustc-link-lib=static=capi");
+    println!("cargo:rustc-check-cfg=cfg(peer)");
+    println!("cargo:rerun-if-env-changed=OY_PEER_DIR");
+    if let Ok(peer) = env::var("OY_PEER_DIR") {
+        println!("cargo:rerun-if-changed={peer}/libpeer.a");
+        println!("cargo:rustc-cfg=peer");
+        println!("cargo:rustc-link-search=native={peer}");
+        println!("cargo:rustc-link-lib=static=peer");
+        println!("cargo:rustc-link-lib=dylib=h2o");
+    }
 }

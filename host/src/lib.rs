@@ -7,6 +7,8 @@ mod ffi;
 pub mod generate;
 pub mod guarded;
 pub mod meaning;
+#[cfg(peer)]
+pub mod peer;
 pub mod random;
 pub mod recorded;
 pub mod reference;

@@ -85,10 +85,11 @@ fn response_case(fields: usize, body_len: usize) -> Case {
     Case::new(Call::Response, vec![bytes], 0)
 }
 
-/// The recorded cases of the call that are accepted.
+/// The recorded cases of the call that are accepted, with room enough for the C peer, which asks for more than it needs.
 fn recorded_cases(call: Call) -> Vec<Case> {
     let accepted = recorded::all().into_iter().filter(|recorded| recorded.expected.is_ok());
-    accepted.map(|recorded| recorded.case).filter(|case| case.call == call).collect()
+    let cases = accepted.map(|recorded| recorded.case).filter(|case| case.call == call);
+    cases.map(|case| Case { room: case.room + 20_000, ..case }).collect()
 }
 
 /// The recorded requests as blocks and bodies for the writer.
