@@ -1,7 +1,8 @@
 // Runs the proved calls on the byte cases of the scope paper and of the SCGI text of 2008, and prints what each gives.
 // The file stdout holds what they must give.
 mod print; // words and numbers on standard output
-mod scgi_cases; // the reader, the writer and the lookups
+mod scgi_cases; // the reader and the writer
+mod lookup_cases; // the lookups in one block and in two
 mod http_cases; // the parts of an HTTP head
 mod response_cases; // script response heads
 mod gateway_cases; // the step: whole outputs, mounts, fields, room
@@ -13,8 +14,8 @@ fn main() {
     scgi_cases::reader();
     scgi_cases::reader_order();
     scgi_cases::writer();
-    scgi_cases::lookup();
-    scgi_cases::two_blocks();
+    lookup_cases::one_block();
+    lookup_cases::two_blocks();
     http_cases::heads();
     http_cases::request_lines();
     http_cases::targets();

@@ -1,9 +1,5 @@
-// The SCGI reader, writer and lookups.
+// The SCGI reader and writer.
 use crate::print;
-use headers::lookup::Place;
-use headers::lookup::find;
-use headers::setting::Where;
-use headers::setting::find_setting;
 use scgi::read::Reading;
 use scgi::read::read;
 use scgi::write::Writing;
@@ -105,64 +101,4 @@ pub fn writer() {
         b"CONTENT_LENGTH\087\0SCGI\01\0",
         b"012345678901234567890123456789012345678901234567890123456789012345678901234567890123456",
     );
-}
-
-fn show_find(block: &[u8], name: &[u8]) {
-    let p = find(block, name);
-    match p {
-        Place::At { start, len } => {
-            print::word(b"at");
-            print::number(start);
-            print::number(len);
-            print::end();
-        }
-        Place::Absent => {
-            print::word(b"absent");
-            print::end();
-        }
-        Place::Refused(n) => print::refused(n),
-    }
-}
-
-pub fn lookup() {
-    show_find(b"A\01\0B\0\0A\02\0", b"A");
-    show_find(b"A\01\0B\0\0A\02\0", b"B");
-    show_find(b"A\01\0B\0\0A\02\0", b"C");
-    show_find(b"A\01\0B\0\0A\02\0", b"");
-    show_find(b"A\01\0B\0\0A\02\0", b"A\0");
-    show_find(b"", b"A");
-    show_find(b"A\01", b"A");
-    show_find(b"A\01\0\02\0", b"A");
-}
-
-fn show_setting(first: &[u8], second: &[u8], name: &[u8]) {
-    let w = find_setting(first, second, name);
-    match w {
-        Where::First { start, len } => {
-            print::word(b"first");
-            print::number(start);
-            print::number(len);
-            print::end();
-        }
-        Where::Second { start, len } => {
-            print::word(b"second");
-            print::number(start);
-            print::number(len);
-            print::end();
-        }
-        Where::Absent => {
-            print::word(b"absent");
-            print::end();
-        }
-        Where::Refused(n) => print::refused(n),
-    }
-}
-
-pub fn two_blocks() {
-    show_setting(b"A\01\0", b"A\022\0B\03\0", b"A");
-    show_setting(b"A\0\0", b"A\022\0B\03\0", b"A");
-    show_setting(b"A\01\0", b"A\022\0B\03\0", b"B");
-    show_setting(b"A\01\0", b"A\022\0B\03\0", b"C");
-    show_setting(b"A\01\0", b"B", b"A");
-    show_setting(b"A", b"B\03\0", b"B");
 }
