@@ -1,7 +1,7 @@
 -- Laws of the head's end, one byte and four bytes at a time.
 -- Assumes nothing.
 use mathlib.Core.Path.{_≡_, refl, sym, ap, _∙_}
-use mathlib.Core.Bool.{Bool, true, false, cond, _&&_, and-false}
+use mathlib.Core.Bool.{Bool, true, false, cond, _&&_, _||_, and-false}
 use mathlib.Core.List.{List, [], _∷_, _++_}
 use mathlib.Core.Option.{Option, none, some}
 use Prim.Native.Nat.{ℕ, suc, _+_, _-_, _≤_, _<_}
@@ -101,6 +101,47 @@ module _ (s : List ℕ) where
 
     pub pass-sixteen : 13 < getD s (i + 7) 0 → 13 < getD s (i + 11) 0 → 13 < getD s (i + 15) 0 → Passed s from (i + 16)
     pass-sixteen d e f = four-on (i + 12) (i + 15) (i + 16) (omega arith) (omega arith) (omega arith) f from (pass-twelve d e)
+
+-- Places passed by the pairs of bytes behind them.
+
+or-left : (a b : Bool) → a || b ≡ false → a ≡ false
+or-left true b e = e
+or-left false b e = refl
+
+or-right : (a b : Bool) → a || b ≡ false → b ≡ false
+or-right true b e = cc
+or-right false b e = e
+
+middle : (a b c d : Bool) → b && c ≡ false → ((a && b) && c) && d ≡ false
+middle true true true d e = cc
+middle true true false d e = refl
+middle true false c d e = refl
+middle false b c d e = refl
+
+module _ (s : List ℕ) where
+  pub pass-none : (i : ℕ) → i ≤ length s → Passed s i i
+  pass-none i h = record { onward = omega arith; inside = h; same = refl }
+
+  pub pass-then : (i j k : ℕ) → Passed s i j → Passed s j k → Passed s i k
+  pass-then i j k p q = record { onward = omega (arith, p .onward, q .onward); inside = q .inside; same = p .same ∙ q .same }
+
+  -- a place behind which LF and CR do not stand next to each other
+  pub turn-on :
+      (i k : ℕ) (hit : Bool) → i + k < length s → (hit ≡ false → Passed s i (i + k))
+      → hit || (eqb (getD s (i + k + 1) 0) 10 && eqb (getD s (i + k + 2) 0) 13) ≡ false → Passed s i (i + (k + 1))
+  turn-on i k hit h p e =
+      let q : i + k + 1 ≡ i + (k + 1) = omega arith in
+      let t = eqb (getD s (i + k + 1) 0) 10 && eqb (getD s (i + k + 2) 0) 13 in
+      let n : endsHead (drop (i + k) s) ≡ false =
+      ends-at s (i + k) ∙ middle (eqb (getD s (i + k) 0) 13) (eqb (getD s (i + k + 1) 0) 10) (eqb (getD s (i + k + 2) 0) 13) (eqb (getD s (i + k + 3) 0) 10) (or-right hit t e) in
+      rw q at (one-on s i (i + k) (i + k + 1) (p (or-left hit t e)) h n (pass-none (i + k + 1) (omega arith)))
+
+  -- two chunks of sixteen
+  pub pass-chunks :
+      (i : ℕ) (a b : Bool) → (a ≡ false → Passed s i (i + 16)) → (b ≡ false → Passed s (i + 16) (i + 16 + 16)) → a || b ≡ false → Passed s i (i + 32)
+  pass-chunks i a b p q e =
+      let l : i + 16 + 16 ≡ i + 32 = omega arith in
+      rw l at (pass-then i (i + 16) (i + 16 + 16) (p (or-left a b e)) (q (or-right a b e)))
 
 -- a head lies in s and in the limit, and has its last four bytes
 some-end : (i : ℕ) (s : List ℕ) (n : ℕ) → endFrom i s ≡ some n → (i + 4 ≤ n) × (n ≤ i + length s)

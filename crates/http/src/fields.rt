@@ -8,6 +8,7 @@ ghost use Rattle.octets.specs.KindTable.{table};
 ghost use Rattle.http.specs.Lines.{lineRun};
 ghost use Rattle.http.specs.Fields.{lineOption, numbersOf, placeOf, fieldsOutcome, Stored};
 use crate::lines::is_line_end;
+use bulk::scan::value_end;
 use octets::kinds::Kind;
 use octets::scan::find;
 use octets::scan::run_end;
@@ -77,7 +78,7 @@ fn field_at(kinds: &[u8; 256], head: &[u8], start: usize) -> FieldPlace
     if colon == start {
         return FieldPlace::Malformed;
     }
-    let end = run_end(kinds, Kind::Value, head, colon + 1);
+    let end = value_end(kinds, head, colon + 1);
     if !is_line_end(head, end) {
         return FieldPlace::Malformed;
     }

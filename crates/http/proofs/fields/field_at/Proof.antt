@@ -11,11 +11,11 @@ use Rattle.http.proofs.fields.field_at.Statement.{statement}
 use Rattle.http.proofs.fields.field_at.Tie as tie
 
 -- the value lies within the head
-begins : (c : tie.After-blank-end) → c .blank-end .result ≤ c .before .before .before .run-end2 .result
-begins c = begins-in _ _ _ (c .before .before .before .before .before .before .before .before .before .before .pre .1) (c .before .before .before .before .before .before .before .before .run-end .ensures) (c .before .before .before .before .before .before .before .if1 .left) (c .before .before .before .before .before .if2 .left) (c .before .before .before .before .if3 .left) _ (c .before .before .before .run-end2 .ensures) (sym (c .before .before .is-line-end .ensures) ∙ not-false _ (c .before .if4 .left)) _ (c .blank-end .ensures)
+begins : (c : tie.After-blank-end) → c .blank-end .result ≤ c .before .before .before .value-end .result
+begins c = begins-in _ _ _ (c .before .before .before .before .before .before .before .before .before .before .pre .1) (c .before .before .before .before .before .before .before .before .run-end .ensures) (c .before .before .before .before .before .before .before .if1 .left) (c .before .before .before .before .before .if2 .left) (c .before .before .before .before .if3 .left) _ (c .before .before .before .value-end .ensures) (sym (c .before .before .is-line-end .ensures) ∙ not-false _ (c .before .if4 .left)) _ (c .blank-end .ensures)
 
-ends : (c : tie.After-blank-end) → c .before .before .before .run-end2 .result ≤ length (c .before .before .before .before .before .before .before .before .before .before .args .head .now)
-ends c = ends-in _ _ _ (c .before .before .before .before .before .before .before .before .before .before .pre .1) (c .before .before .before .before .before .before .before .before .run-end .ensures) (c .before .before .before .before .before .before .before .if1 .left) (c .before .before .before .before .before .if2 .left) (c .before .before .before .before .if3 .left) _ (c .before .before .before .run-end2 .ensures) (sym (c .before .before .is-line-end .ensures) ∙ not-false _ (c .before .if4 .left)) _ (c .blank-end .ensures)
+ends : (c : tie.After-blank-end) → c .before .before .before .value-end .result ≤ length (c .before .before .before .before .before .before .before .before .before .before .args .head .now)
+ends c = ends-in _ _ _ (c .before .before .before .before .before .before .before .before .before .before .pre .1) (c .before .before .before .before .before .before .before .before .run-end .ensures) (c .before .before .before .before .before .before .before .if1 .left) (c .before .before .before .before .before .if2 .left) (c .before .before .before .before .if3 .left) _ (c .before .before .before .value-end .ensures) (sym (c .before .before .is-line-end .ensures) ∙ not-false _ (c .before .if4 .left)) _ (c .blank-end .ensures)
 
 run-end-requires : tie.Need-run-end-requires
 run-end-requires c κs = search needs
@@ -32,17 +32,17 @@ returns-2 c = colonless _ _ _ (c .before .before .before .before .before .pre .1
 returns-3 : tie.Need-returns-3
 returns-3 c = nameless _ _ _ (c .before .before .before .before .before .before .pre .1) (c .before .before .before .before .run-end .ensures) (c .before .before .before .if1 .left) (c .before .if2 .left) (c .if3 .taken)
 
-add-run-end : tie.Need-add-run-end
-add-run-end c = search needs
+add-value-end : tie.Need-add-value-end
+add-value-end c = search needs
 
-run-end-requires-2 : tie.Need-run-end-requires-2
-run-end-requires-2 c κs = search needs
+value-end-requires : tie.Need-value-end-requires
+value-end-requires c κs = search needs
 
 is-line-end-requires : tie.Need-is-line-end-requires
 is-line-end-requires c κs = search needs
 
 returns-4 : tie.Need-returns-4
-returns-4 c = valueless _ _ _ (c .before .before .before .before .before .before .before .before .before .pre .1) (c .before .before .before .before .before .before .before .run-end .ensures) (c .before .before .before .before .before .before .if1 .left) (c .before .before .before .before .if2 .left) (c .before .before .before .if3 .left) _ (c .before .before .run-end2 .ensures) (sym (c .before .is-line-end .ensures) ∙ not-true _ (c .if4 .taken))
+returns-4 c = valueless _ _ _ (c .before .before .before .before .before .before .before .before .before .pre .1) (c .before .before .before .before .before .before .before .run-end .ensures) (c .before .before .before .before .before .before .if1 .left) (c .before .before .before .before .if2 .left) (c .before .before .before .if3 .left) _ (c .before .before .value-end .ensures) (sym (c .before .is-line-end .ensures) ∙ not-true _ (c .if4 .taken))
 
 add-blank-end : tie.Need-add-blank-end
 add-blank-end c = search needs
@@ -66,7 +66,7 @@ kept-len-requires : tie.Need-kept-len-requires
 kept-len-requires c κs = search needs
 
 returns-5 : tie.Need-returns-5
-returns-5 c = stands _ _ _ (c .before .before .before .before .before .before .before .before .before .before .before .before .pre .1) (c .before .before .before .before .before .before .before .before .before .before .run-end .ensures) (c .before .before .before .before .before .before .before .before .before .if1 .left) (c .before .before .before .before .before .before .before .if2 .left) (c .before .before .before .before .before .before .if3 .left) _ (c .before .before .before .before .before .run-end2 .ensures) (sym (c .before .before .before .before .is-line-end .ensures) ∙ not-false _ (c .before .before .before .if4 .left)) _ (c .before .before .blank-end .ensures) _ (c .kept-len .ensures)
+returns-5 c = stands _ _ _ (c .before .before .before .before .before .before .before .before .before .before .before .before .pre .1) (c .before .before .before .before .before .before .before .before .before .before .run-end .ensures) (c .before .before .before .before .before .before .before .before .before .if1 .left) (c .before .before .before .before .before .before .before .if2 .left) (c .before .before .before .before .before .before .if3 .left) _ (c .before .before .before .before .before .value-end .ensures) (sym (c .before .before .before .before .is-line-end .ensures) ∙ not-false _ (c .before .before .before .if4 .left)) _ (c .before .before .blank-end .ensures) _ (c .kept-len .ensures)
 
 pub field-at-spec : {M : Type 1} → statement M
 field-at-spec =
@@ -77,8 +77,8 @@ field-at-spec =
     shared-slice-read-if2
     returns-2
     returns-3
-    add-run-end
-    run-end-requires-2
+    add-value-end
+    value-end-requires
     is-line-end-requires
     returns-4
     add-blank-end

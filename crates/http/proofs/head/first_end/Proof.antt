@@ -4,7 +4,7 @@ use mathlib.Core.Path.{refl, sym, _∙_}
 use Prim.Native.Nat.{_-_}
 use lib.ListN.{length}
 use Rattle.http.specs.Head.{Passed}
-use Rattle.http.proofs.Heads.{end-none, end-here, one-on, four-on}
+use Rattle.http.proofs.Heads.{end-none, end-here, one-on, four-on, pass-then}
 use borrow.Author.Needs.{needs}
 use native.Mathlib.Omega.{arith}
 use Rattle.http.proofs.head.first_end.Statement.{statement}
@@ -16,11 +16,14 @@ Inv-loop s i₀ i = Passed s 0 i
 abbrev μ-loop : tie.MeasureT-loop
 μ-loop s i₀ i = length s - i
 
+leap-requires : tie.Need-leap-requires Inv-loop μ-loop
+leap-requires c κs = search needs
+
 skip-requires : tie.Need-skip-requires Inv-loop μ-loop
-skip-requires c κs = search needs
+skip-requires c κs = c .leap .ensures .inside
 
 loop-holds : tie.Need-loop-holds Inv-loop μ-loop
-loop-holds c = c .skip .ensures
+loop-holds c = pass-then _ _ _ _ (c .before .leap .ensures) (c .skip .ensures)
 
 sub-loop : tie.Need-sub-loop Inv-loop μ-loop
 sub-loop c = search needs
@@ -43,8 +46,8 @@ loop-again c = four-on _ _ _ _ refl refl (omega arith) (c .if1 .taken) 0 (c .bef
 ends-head-requires : tie.Need-ends-head-requires Inv-loop μ-loop
 ends-head-requires c κs = search needs
 
-add-t9 : tie.Need-add-t9 Inv-loop μ-loop
-add-t9 c = search needs
+add-t10 : tie.Need-add-t10 Inv-loop μ-loop
+add-t10 c = search needs
 
 returns : tie.Need-returns Inv-loop μ-loop
 returns c =
@@ -73,6 +76,7 @@ first-end-spec =
     (tie.spec
     Inv-loop
     μ-loop
+    leap-requires
     skip-requires
     loop-holds
     sub-loop
@@ -82,7 +86,7 @@ first-end-spec =
     loop-less
     loop-again
     ends-head-requires
-    add-t9
+    add-t10
     returns
     add-skip
     skip-requires-2
