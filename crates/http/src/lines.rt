@@ -4,7 +4,7 @@ ghost use Prim.Native.Nat.{_+_, _≤_, _<_};
 ghost use lib.Dec.{eqb};
 ghost use lib.ListN.{length, drop};
 ghost use Rattle.http.specs.Lines.{endsLine, lineRun};
-use octets::scan::find;
+use bulk::scan::find_far;
 
 // Whether CR LF stands at i.
 fn ends_line(s: &[u8], i: usize) -> bool
@@ -35,12 +35,12 @@ pub fn line_end(s: &[u8], from: usize) -> usize
     requires { ⌜ from ≤ length (now s) ⌝ }
     ensures { λ r. ⌜ r ≡ from + lineRun (drop from (now (s .entry))) ⌝ }
 {
-    let mut i = find(s, from, b'\r');
+    let mut i = find_far(s, from, b'\r');
     while i < s.len() {
         if ends_line(s, i) {
             return i;
         }
-        i = find(s, i + 1, b'\r');
+        i = find_far(s, i + 1, b'\r');
     }
     i
 }

@@ -1,8 +1,11 @@
 // The request line: the first line of a head.
 ghost use mathlib.Core.Path.{_≡_};
 ghost use Rattle.octets.specs.Outcome.{refusalOf};
+ghost use lib.ListN.{length};
 ghost use Rattle.octets.specs.KindTable.{table};
+ghost use Rattle.octets.specs.Compare.{sameBytes};
 ghost use Rattle.http.specs.RequestLine.{isMethod, isVersion, versionOutcome, versionOf, lineOutcome, linePlacesOf};
+use bulk::compare::eight_at;
 use octets::compare::same;
 use octets::kinds::Kind;
 use octets::kinds::is_kind;
@@ -63,15 +66,26 @@ impl Version {
     }
 }
 
+// Whether s is the eight bytes t.
+fn is_eight(s: &[u8], t: &[u8; 8]) -> bool
+    requires { ⌜ length (now t) ≡ 8 ⌝ }
+    ensures { λ r. ⌜ r ≡ sameBytes (now (s .entry)) (now (t .entry)) ⌝ }
+{
+    if s.len() != 8 {
+        return false;
+    }
+    eight_at(s, 0, t)
+}
+
 // The digit after `HTTP/1.` of a version that is served.
 fn minor_version(kinds: &[u8; 256], s: &[u8]) -> Version
     requires { ⌜ now kinds ≡ table ⌝ }
     ensures { λ r. ⌜ versionOutcome r ≡ versionOf (now (s .entry)) ⌝ }
 {
-    if same(s, b"HTTP/1.0") {
+    if is_eight(s, b"HTTP/1.0") {
         return Version::Minor(0);
     }
-    if same(s, b"HTTP/1.1") {
+    if is_eight(s, b"HTTP/1.1") {
         return Version::Minor(1);
     }
     if is_version(kinds, s) {

@@ -53,19 +53,19 @@ blank-end-requires c κs = search needs
 kept-len-requires : tie.Need-kept-len-requires
 kept-len-requires c κs = value-in c
 
-run-end-requires-2 : tie.Need-run-end-requires-2
-run-end-requires-2 c κs = (c .before .before .before .before .before .before .before .before .pre, value-in (c .before))
+value-end-requires : tie.Need-value-end-requires
+value-end-requires c κs = (c .before .before .before .before .before .before .before .before .pre, value-in (c .before))
 
 add-if4 : tie.Need-add-if4
 add-if4 c = omega (arith, end-in (c .before))
 
 returns-4 : tie.Need-returns-4
 returns-4 c =
-    malformed _ _ (bad-value _ _ _ (c .before .before .before .before .before .before .before .before .find .ensures) (c .before .before .before .before .before .before .before .if1 .left) _ _ (c .before .before .before .blank-end .ensures) (c .before .before .kept-len .ensures) _ (c .before .run-end2 .ensures) (c .if4 .taken))
+    malformed _ _ (bad-value _ _ _ (c .before .before .before .before .before .before .before .before .find .ensures) (c .before .before .before .before .before .before .before .if1 .left) _ _ (c .before .before .before .blank-end .ensures) (c .before .before .kept-len .ensures) _ (c .before .value-end .ensures) (c .if4 .taken))
 
 returns-5 : tie.Need-returns-5
 returns-5 c =
-    sym (whole _ _ _ (c .before .before .before .before .before .before .before .before .find .ensures) (c .before .before .before .before .before .before .before .if1 .left) _ _ (c .before .before .before .blank-end .ensures) (c .before .before .kept-len .ensures) (c .before .before .before .before .before .before .if2 .left) (omega (arith, c .before .before .before .before .before .run-end .ensures, c .before .before .before .before .if3 .left)) (omega (arith, c .before .run-end2 .ensures, c .if4 .left)))
+    sym (whole _ _ _ (c .before .before .before .before .before .before .before .before .find .ensures) (c .before .before .before .before .before .before .before .if1 .left) _ _ (c .before .before .before .blank-end .ensures) (c .before .before .kept-len .ensures) (c .before .before .before .before .before .before .if2 .left) (omega (arith, c .before .before .before .before .before .run-end .ensures, c .before .before .before .before .if3 .left)) (omega (arith, c .before .value-end .ensures, c .if4 .left)))
 
 pub field-line-spec : {M : Type 1} → statement M
 field-line-spec =
@@ -79,7 +79,7 @@ field-line-spec =
     add-blank-end
     blank-end-requires
     kept-len-requires
-    run-end-requires-2
+    value-end-requires
     add-if4
     returns-4
     returns-5)

@@ -18,13 +18,13 @@ Inv-loop s from i₀ i = (i ≤ length s) × (from + lineRun (drop from s) ≡ i
 abbrev μ-loop : tie.MeasureT-loop
 μ-loop s from i₀ i = length s - i
 
-find-requires : tie.Need-find-requires Inv-loop μ-loop
-find-requires c κs = search needs
+find-far-requires : tie.Need-find-far-requires Inv-loop μ-loop
+find-far-requires c κs = search needs
 
 loop-holds : tie.Need-loop-holds Inv-loop μ-loop
 loop-holds c =
     let a = c .before .before .args in
-    (omega (arith, run-within (other 13) (a .s .now) (a .from) (c .before .before .pre)), line-on (other 13) refl (a .s .now) (a .from) (c .find .result) (c .find .ensures))
+    (omega (arith, run-within (other 13) (a .s .now) (a .from) (c .before .before .pre)), line-on (other 13) refl (a .s .now) (a .from) (c .find-far .result) (c .find-far .ensures))
 
 ends-line-requires : tie.Need-ends-line-requires Inv-loop μ-loop
 ends-line-requires c κs = search needs
@@ -34,11 +34,11 @@ returns c =
     let l = c .before .before .before in
     omega (arith, line-stop (l .before .before .before .args .s .now) (l .loop .i) (c .before .before .loop-test .taken) (sym (c .before .ends-line .ensures) ∙ c .if1 .taken))
 
-add-find : tie.Need-add-find Inv-loop μ-loop
-add-find c = search needs
+add-find-far : tie.Need-add-find-far Inv-loop μ-loop
+add-find-far c = search needs
 
-find-requires-2 : tie.Need-find-requires-2 Inv-loop μ-loop
-find-requires-2 c κs = search needs
+find-far-requires-2 : tie.Need-find-far-requires-2 Inv-loop μ-loop
+find-far-requires-2 c κs = search needs
 
 loop-less : tie.Need-loop-less Inv-loop μ-loop
 loop-less c = omega arith
@@ -50,7 +50,7 @@ loop-again c =
     let i = l .loop .i in
     let h = c .before .before .before .loop-test .taken in (
       omega (arith, run-within (other 13) s (i + 1) (omega arith)),
-      omega (arith, line-more s i h (sym (c .before .before .ends-line .ensures) ∙ c .before .if1 .left), line-on (other 13) refl s (i + 1) (c .find2 .result) (c .find2 .ensures)),
+      omega (arith, line-more s i h (sym (c .before .before .ends-line .ensures) ∙ c .before .if1 .left), line-on (other 13) refl s (i + 1) (c .find-far2 .result) (c .find-far2 .ensures)),
     )
 
 returns-2 : tie.Need-returns-2 Inv-loop μ-loop
@@ -64,12 +64,12 @@ line-end-spec =
     (tie.spec
     Inv-loop
     μ-loop
-    find-requires
+    find-far-requires
     loop-holds
     ends-line-requires
     returns
-    add-find
-    find-requires-2
+    add-find-far
+    find-far-requires-2
     loop-less
     loop-again
     returns-2)
