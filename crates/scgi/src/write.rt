@@ -9,8 +9,8 @@ ghost use Rattle.scgi.specs.Grammar.{netstring};
 ghost use Rattle.scgi.specs.Write.{writingOutcome, inRoom, WrittenOut, Written};
 use crate::check::Checked;
 use crate::check::check_block;
+use bulk::copy::put_large;
 use octets::copy::put;
-use octets::copy::put_large;
 use octets::decimal;
 
 pub enum Writing {
@@ -38,7 +38,7 @@ fn put_netstring(out: &mut [u8], block: &[u8]) -> usize
 {
     let a = decimal::write(out, 0, block.len() as u64);
     let b = put(out, a, b":");
-    let c = put(out, b, block);
+    let c = put_large(out, b, block);
     put(out, c, b",")
 }
 

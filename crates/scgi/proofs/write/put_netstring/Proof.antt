@@ -16,14 +16,14 @@ slice-aggregate-put c = search needs
 put-requires : tie.Need-put-requires
 put-requires c κs = omega (arith, c .before .before .before .before .before .before .before .before .pre, netstring-length (c .before .before .before .before .before .before .before .before .args .block .now), c .before .before .before .before .write .ensures .ends)
 
-put-requires-2 : tie.Need-put-requires-2
-put-requires-2 c κs = omega (arith, c .before .before .before .before .before .before .before .before .before .before .before .before .pre, netstring-length (c .before .before .before .before .before .before .before .before .before .before .before .before .args .block .now), c .before .before .before .before .before .before .before .before .write .ensures .ends, c .before .before .before .put .ensures .ends)
+put-large-requires : tie.Need-put-large-requires
+put-large-requires c κs = omega (arith, c .before .before .before .before .before .before .before .before .before .before .before .before .pre, netstring-length (c .before .before .before .before .before .before .before .before .before .before .before .before .args .block .now), c .before .before .before .before .before .before .before .before .write .ensures .ends, c .before .before .before .put .ensures .ends)
 
 slice-aggregate-put-2 : tie.Need-slice-aggregate-put-2
 slice-aggregate-put-2 c = search needs
 
-put-requires-3 : tie.Need-put-requires-3
-put-requires-3 c κs = omega (arith, c .before .before .before .before .before .before .before .before .before .before .before .before .before .before .before .before .before .pre, netstring-length (c .before .before .before .before .before .before .before .before .before .before .before .before .before .before .before .before .before .args .block .now), c .before .before .before .before .before .before .before .before .before .before .before .before .before .write .ensures .ends, c .before .before .before .before .before .before .before .before .put .ensures .ends, c .before .before .before .before .put2 .ensures .ends)
+put-requires-2 : tie.Need-put-requires-2
+put-requires-2 c κs = omega (arith, c .before .before .before .before .before .before .before .before .before .before .before .before .before .before .before .before .before .pre, netstring-length (c .before .before .before .before .before .before .before .before .before .before .before .before .before .before .before .before .before .args .block .now), c .before .before .before .before .before .before .before .before .before .before .before .before .before .write .ensures .ends, c .before .before .before .before .before .before .before .before .put .ensures .ends, c .before .before .before .before .put-large .ensures .ends)
 
 same-length : tie.Need-same-length
 same-length c = search needs
@@ -34,7 +34,7 @@ returns c =
     let p₃ = c .before .before .before .before .before .before .before in
     let p₂ = c .before .before .before .before .before .before .before .before .before .before .before in
     let p₁ = c .before .before .before .before .before .before .before .before .before .before .before .before .before .before .before .before in
-    four-writes _ _ _ _ _ _ _ _ _ _ (c .before .before .before .before .before .before .before .before .before .before .before .before .before .before .before .before .before .before .before .before .pre) (p₁ .write .ensures) (p₂ .put .ensures) (p₃ .put2 .ensures) (p₄ .put3 .ensures)
+    four-writes _ _ _ _ _ _ _ _ _ _ (c .before .before .before .before .before .before .before .before .before .before .before .before .before .before .before .before .before .before .before .before .pre) (p₁ .write .ensures) (p₂ .put .ensures) (p₃ .put-large .ensures) (p₄ .put2 .ensures)
 
 pub put-netstring-spec : {M : Type 1} → statement M
 put-netstring-spec =
@@ -43,8 +43,8 @@ put-netstring-spec =
     write-requires
     slice-aggregate-put
     put-requires
-    put-requires-2
+    put-large-requires
     slice-aggregate-put-2
-    put-requires-3
+    put-requires-2
     same-length
     returns)
