@@ -43,8 +43,8 @@ pub record SpoolsHold : Type 0 where
 abbrev pub LargestRequest : Type 0
 LargestRequest = (s : List ℕ) → readOf s ≡ refused 1 → length s < largest
 
--- reading a spool through the window, however the reads cut it and whatever room a turn has, gives what the spool call gives over the whole input
--- with room for all its requests: each has a byte or more. A turn for each byte and each read, and two more, are enough
+-- reading a spool through the window, however the reads cut it and whatever room a turn has, gives what the spool call gives over the whole
+-- input with room for all its requests, each of a byte or more. Turns for each byte, each read and two more are enough
 abbrev pub WindowReadsAll : Type 0
 WindowReadsAll =
     (reads : List (List ℕ)) (k room n : ℕ) → 0 < room → length (joined reads) + length reads + 2 ≤ k → length (joined reads) ≤ n

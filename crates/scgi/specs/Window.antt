@@ -34,8 +34,8 @@ pub record TurnDone (held : List ℕ) (atEnd : Bool) (before after : List ℕ) (
   pub inside : r .taken ≤ length held
   pub room : r .next ≡ More → length held - r .taken < largest
 
--- What the program does turn by turn, for the claim that the cuts between its reads don't matter. Between two turns it holds bytes, knows whether
--- the input has ended, and has reads to come.
+-- What the program does turn by turn, for the claim that the cuts between its reads don't matter. Between two turns it knows whether the input
+-- has ended, holds bytes, and has reads to come, each of a byte or more: a read of none says that the input has ended.
 abbrev pub Turns : Type 0
 Turns = Bool → List ℕ → List (List ℕ) → Spool
 
@@ -52,13 +52,14 @@ afterTurn turns atEnd left reads Whole = ended whole
 afterTurn turns atEnd left reads Cut = ended cut
 afterTurn turns atEnd left reads (Refused n) = ended (refusedBy n)
 
--- k turns at most, each with an empty list that has room for so many lengths: the lengths of a turn stand before those of the turns after it, which
+-- k turns at most, each with an empty list that has room for so many lengths: a turn's lengths stand before those of the turns after it, which
 -- go on with the bytes that it did not take
 unfoldable pub turnsIn : ℕ → ℕ → Turns
 turnsIn zero room atEnd held reads = ended full
 turnsIn (suc k) room atEnd held reads =
     behind (requestsOf held room .lengths)
-    (afterTurn (turnsIn k room) atEnd (drop (total (requestsOf held room .lengths)) held) reads (nextOf atEnd (requestsOf held room .ending)))
+    (afterTurn (turnsIn k room) atEnd (drop (total (requestsOf held room .lengths)) held) reads
+    (nextOf atEnd (requestsOf held room .ending)))
 
 -- nothing is held before the first turn
 abbrev pub throughWindow : ℕ → ℕ → List (List ℕ) → Spool
