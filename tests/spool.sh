@@ -1,21 +1,18 @@
 #!/usr/bin/env bash
-# Runs the spool program on spools made here and compares what it prints, byte for byte.
-set -uo pipefail
-cd "$(dirname "${BASH_SOURCE[0]}")/.." || exit 2
+# Runs the spool program on spools made here and compares what it prints, byte for byte; then where it can't read or write.
+test=spool
+# shellcheck source=tests/asserts.bash
+source "$(dirname "${BASH_SOURCE[0]}")/asserts.bash"
 spool=target/bin/spool
-[ -x "$spool" ] || { echo "$spool is not built: run rt check spool"; exit 1; }
-dir=$(mktemp -d)
-trap 'rm -rf "$dir"' EXIT
-bad=0
+[ -x "$spool" ] || { echo "$spool is not built: run make spool"; exit 1; }
 
 # check NAME: runs the program on $dir/in and compares its output with $dir/want
 check() {
     if ! "$spool" <"$dir/in" >"$dir/got" 2>"$dir/err" || ! cmp -s "$dir/got" "$dir/want" || [ -s "$dir/err" ]; then
-        echo "spool: $1: printed"
+        complain "$1: printed"
         head -n 5 "$dir/got" "$dir/err"
         echo "but should have printed"
         head -n 5 "$dir/want"
-        bad=1
     fi
 }
 
@@ -87,12 +84,27 @@ check "a spool longer than the window"
 # bytes that come slowly
 { for i in 1 2 3; do request 5; sleep 0.05; printf '24:CONT'; sleep 0.05; printf 'ENT_LENGTH|0|SCGI|1|,' | tr '|' '\000'; done; } | "$spool" >"$dir/got"
 { for i in 1 2 3; do request_length 5; echo 28; done; echo whole; } >"$dir/want"
-cmp -s "$dir/got" "$dir/want" || { echo "spool: bytes that come slowly give other lines"; bad=1; }
+cmp -s "$dir/got" "$dir/want" || complain "bytes that come slowly give other lines"
 
-# a read error is no end of input: a complaint, and no ending, whatever the exit status
-"$spool" </ >"$dir/got" 2>"$dir/err" || true
-if [ -s "$dir/got" ] || ! [ -s "$dir/err" ]; then
-    echo "spool: a read error gives an ending, or no complaint"
-    bad=1
-fi
+# the stack that README names is enough for the largest request
+request 1048576 >"$dir/in"
+[ "$( (ulimit -s 1280 && "$spool") <"$dir/in" | tail -n 1)" = whole ] || complain "1,280 KiB of stack are not enough"
+
+# a read that fails is no end of the input: a complaint and no ending. The exit status says nothing: the language has none
+unreadable 0 "spool: standard input can't be read" "$spool"
+
+# a write that fails: a complaint and no ending, of an empty spool too, whose ending is the first line
+: >"$dir/in"
+unwritable 0 "spool: standard output can't be written" "$spool"
+yes '24:CONTENT_LENGTH|0|SCGI|1|,' | head -n 30000 | tr -d '\n' | tr '|' '\000' >"$dir/in"
+unwritable 0 "spool: standard output can't be written" "$spool"
+clogged 0 "spool: standard output can't be written: Resource temporarily unavailable" "$spool"
+[ "$(sort -u "$dir/out")" = 28 ] || complain "another line than lengths before a write that failed"
+[ "$(wc -l <"$dir/out")" -lt 30000 ] || complain "the pipe was not full"
+
+# with arguments: how it is used, and no byte is read
+for word in "$dir/in" --help ''; do
+    refuses 0 "usage: spool <FILE" "$spool" "$word"
+done
+{ "$spool" word 2>"$dir/err"; cat; } <"$dir/in" | cmp -s - "$dir/in" || complain "input was read although there are arguments"
 exit $bad
