@@ -35,8 +35,8 @@
  * - AUTH_TYPE and REMOTE_USER both stand in facts and are not empty, or neither does. In site they are ignored, as every
  *   name is that is not named here.
  *
- * Reading. Hold the connection's bytes in a buffer of OY_MAX_HTTP bytes, call oy_gateway on all that is there, and act on
- * what it returns:
+ * Reading. Hold the connection's bytes in a buffer of OY_MAX_HTTP bytes (of OY_MAX_HEAD until the head is complete, to save
+ * memory), call oy_gateway on all that is there, and act on what it returns:
  * - 0: send the first answer[OY_GATEWAY_WRITTEN] bytes of `out` to the pool. The next request begins at
  *   answer[OY_GATEWAY_USED]: move what is left to the front, and call again before reading, since a whole request may be there.
  * - OY_CUT: read what the socket has to give and call again. Each call reads the head again and nothing of the body, so call

@@ -1,5 +1,6 @@
 #!/usr/bin/env bash
-# The documents: docs/AUDIT.md has the list of the sources, no line of prose is above 100 columns, and every link leads to a file.
+# The documents: docs/AUDIT.md has the list of the sources, no line is above 100 columns, and every link and every source file that is named
+# is there.
 test=docs
 # shellcheck source=tests/asserts.bash
 source "$(dirname "${BASH_SOURCE[0]}")/asserts.bash"
@@ -14,4 +15,7 @@ for file in README.md docs/AUDIT.md docs/GUIDE.md; do
         [ -e "$(dirname "$file")/$link" ] || echo "$file: no $link"
     done | grep . && complain "links that lead nowhere"
 done
+grep -ohE '\b[a-z]+/(src|specs|proofs)/[A-Za-z_]+\.(rt|antt)' README.md docs/AUDIT.md docs/GUIDE.md | sort -u | while read -r file; do
+    [[ $file = */NAME.* ]] || [ -e "crates/$file" ] || echo "no crates/$file"
+done | grep . && complain "source files that are not there"
 exit $bad
