@@ -1,5 +1,5 @@
 #!/usr/bin/env python3
-"""What a reader of the promises has to read: the definitions that the contracts of the C calls and the chosen claims rest on, file by file.
+"""What a reader of the promises has to read: the definitions that the contracts of the calls and the chosen claims rest on, file by file.
 
     docs/reading.py           prints the list of docs/AUDIT.md
     docs/reading.py --write   puts it into docs/AUDIT.md, between its two marks
@@ -15,6 +15,10 @@ from pathlib import Path
 ROOT = Path(__file__).resolve().parent.parent
 AUDIT = ROOT / 'docs/AUDIT.md'
 BEGIN, END = '<!-- reading: by docs/reading.py -->\n', '<!-- reading ends -->\n'
+
+# the calls whose contracts are read: those that C calls, and two lookups that hand back a part, which a C call can't
+EXPORTED = r'#\[no_mangle\]\npub extern "C" fn (\w+)'
+CALLS = [('capi/src/*.rt', EXPORTED), ('headers/src/lookup.rt', r'pub fn (value)\b'), ('headers/src/setting.rt', r'pub fn (setting)\b')]
 
 # the claims that docs/AUDIT.md cites, by crate
 CLAIMS = {
@@ -34,7 +38,7 @@ WORD = re.compile(r'[^\s(){}\[\];,]+')
 
 
 class File:
-    """A file of specs/, or the contract of a C call: its paragraphs, what each name in it means, and which paragraphs are to be read."""
+    """A file of specs/, or the contract of a call: its paragraphs, what each name in it means, and which paragraphs are to be read."""
 
     def __init__(self, path, crate, text):
         self.path, self.crate, self.name = path, crate, Path(path).stem
@@ -78,14 +82,15 @@ def all_files():
     return files
 
 
-def calls():
-    """The contract of each function that C calls, with the names of its file."""
+def contracts():
+    """The contract of each call, with the names that its file lends it."""
     found = []
-    for path in sorted(ROOT.glob('crates/capi/src/*.rt')):
-        text = path.read_text()
-        for name, contract in re.findall(r'#\[no_mangle\]\npub extern "C" fn (\w+)(.*?)\n\{', text, re.S):
+    for folder, function in CALLS:
+        for path in sorted(ROOT.glob('crates/' + folder)):
+            text = path.read_text()
             uses = '\n'.join(re.findall(r'^ghost use .*$', text, re.M))
-            found.append((name, File(str(path), 'capi', uses + '\n\n' + contract[contract.index('ensures'):] + '\n')))
+            for _, clauses in re.findall(function + r'.*?\n    (ensures.*?)\n\{', text, re.S):
+                found.append(File(str(path), path.parent.parent.name, uses + '\n\n' + clauses + '\n'))
     return found
 
 
@@ -121,7 +126,8 @@ def meanings(files, file, word):
 def reading():
     """The files to be read, in crates.txt's order and within a crate in that of its Lib.antt, each with its definitions to be read marked."""
     files = all_files()
-    for _, contract in calls():
+    promised = contracts()
+    for contract in promised:
         follow(files, contract, contract.paragraphs[-1])
     for crate, names in CLAIMS.items():
         claims = files[crate, 'Claims']
@@ -131,13 +137,13 @@ def reading():
             claims.read.add(claims.own[name])
             follow(files, claims, claims.paragraphs[claims.own[name]])
     order = re.findall(r'^(\w+):', (ROOT / 'crates.txt').read_text(), re.M)
-    return sorted((f for f in files.values() if f.read), key=lambda f: order.index(f.crate)), len(calls())
+    return sorted((f for f in files.values() if f.read), key=lambda f: order.index(f.crate)), len(promised)
 
 
 def listed():
-    files, contracts = reading()
+    files, promised = reading()
     total = sum(f.lines_to_read() for f in files)
-    text = (f'The {contracts} contracts and the claims named above rest on {sum(len(f.names()) for f in files)} definitions, '
+    text = (f'The {promised} contracts and the claims named above rest on {sum(len(f.names()) for f in files)} definitions, '
             f'{total:,} lines with their comments, in {len(files)} files:')
     out = [textwrap.fill(text, 100), '']
     for n, f in enumerate(files, 1):

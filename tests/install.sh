@@ -6,6 +6,7 @@ test=install
 source "$(dirname "${BASH_SOURCE[0]}")/asserts.bash"
 prefix=$dir/usr
 make -s install PREFIX="$prefix" >"$dir/out" 2>&1 || { cat "$dir/out"; echo "make install fails"; exit 1; }
+! make -n all | grep -q vectors || complain "make builds vectors, which is a test"
 expected='bin/oyinkafubo-front
 bin/oyinkafubo-spool
 include/oyinkafubo.h

@@ -39,6 +39,9 @@ request_length() {
     echo $(($(printf %s "${#block}" | wc -c) + 1 + ${#block} + 1 + $1))
 }
 
+# requests_of_28 N: so many requests of 28 bytes
+requests_of_28() { yes '24:CONTENT_LENGTH|0|SCGI|1|,' | head -n "$1" | tr -d '\n' | tr '|' '\000'; }
+
 example='70:CONTENT_LENGTH\00027\000SCGI\0001\000REQUEST_METHOD\000POST\000REQUEST_URI\000/deepthought\000,What is the answer to life?'
 ends "an empty spool" '' whole
 ends "the example" "$example" 101 whole
@@ -72,7 +75,7 @@ echo cut >"$dir/want"
 check "a body of 1,048,576 bytes, cut"
 
 # more requests than the list has room for
-for i in $(seq 3000); do request 0; done >"$dir/in"
+requests_of_28 3000 >"$dir/in"
 { yes 28 | head -n 3000; echo whole; } >"$dir/want"
 check "3,000 requests"
 
@@ -96,7 +99,7 @@ unreadable 0 "spool: standard input can't be read" "$spool"
 # a write that fails: a complaint and no ending, of an empty spool too, whose ending is the first line
 : >"$dir/in"
 unwritable 0 "spool: standard output can't be written" "$spool"
-yes '24:CONTENT_LENGTH|0|SCGI|1|,' | head -n 30000 | tr -d '\n' | tr '|' '\000' >"$dir/in"
+requests_of_28 30000 >"$dir/in"
 unwritable 0 "spool: standard output can't be written" "$spool"
 clogged 0 "spool: standard output can't be written: Resource temporarily unavailable" "$spool"
 [ "$(sort -u "$dir/out")" = 28 ] || complain "another line than lengths before a write that failed"
@@ -106,5 +109,5 @@ clogged 0 "spool: standard output can't be written: Resource temporarily unavail
 for word in "$dir/in" --help ''; do
     refuses 0 "usage: spool <FILE" "$spool" "$word"
 done
-{ "$spool" word 2>"$dir/err"; cat; } <"$dir/in" | cmp -s - "$dir/in" || complain "input was read although there are arguments"
+[ "$({ "$spool" word 2>/dev/null; wc -c; } <"$dir/in")" -eq 840000 ] || complain "input was read although there are arguments"
 exit $bad
