@@ -124,7 +124,7 @@ def meanings(files, file, word):
 
 
 def reading():
-    """The files to be read, in crates.txt's order and within a crate in that of its Lib.antt, each with its definitions to be read marked."""
+    """The files to be read, each after those that it uses and with its definitions to be read marked; and the count of the contracts."""
     files = all_files()
     promised = contracts()
     for contract in promised:
@@ -136,8 +136,26 @@ def reading():
                 sys.exit(f'{claims.path}: no claim {name}')
             claims.read.add(claims.own[name])
             follow(files, claims, claims.paragraphs[claims.own[name]])
-    order = re.findall(r'^(\w+):', (ROOT / 'crates.txt').read_text(), re.M)
-    return sorted((f for f in files.values() if f.read), key=lambda f: order.index(f.crate)), len(promised)
+    return [f for f in in_order(files) if f.read], len(promised)
+
+
+def in_order(files):
+    """All files by crates.txt and within a crate by its Lib.antt, but each after those that it uses."""
+    crates = re.findall(r'^(\w+):', (ROOT / 'crates.txt').read_text(), re.M)
+    seen, ordered = set(), []
+
+    def place(file):
+        if file in seen:
+            return
+        seen.add(file)
+        for crate, module, *_ in [*file.lent.values(), *file.modules.values()]:
+            if (crate, module) in files:
+                place(files[crate, module])
+        ordered.append(file)
+
+    for file in sorted(files.values(), key=lambda f: crates.index(f.crate)):
+        place(file)
+    return ordered
 
 
 def listed():
