@@ -1,23 +1,26 @@
-# make            the archive, the programs and the example front end
-# make run        a recorded HTTP request through the example front end, and its SCGI bytes through the spool program
+# make            the archive, the spool program and the example front end
+# make run        an HTTP request through the example front end, and its SCGI bytes through the spool program
 # make test       the whole gate: proofs from nothing, edits that must be refused, programs, tests
 # make check      prove what changed
 # make bench      the archive beside the Rust implementation, and the spool program beside cat and wc
-# make install    header, archive, pkg-config file and programs below PREFIX (and DESTDIR); make uninstall takes them away
+# make install    headers, archive, pkg-config file and programs below PREFIX (and DESTDIR); make uninstall takes them away
 # make fmt, make clean
 PREFIX ?= /usr/local
 CC ?= cc
 CFLAGS ?= -O2
 WARNINGS = -std=c89 -Wall -Wextra -Wpedantic -Werror
 ARCHIVE = target/staticlib/libcapi.a
-SOURCES := crates.txt $(shell find crates -name '*.rt' -o -name '*.antt')
+# what the archive is made from: all but the programs
+SOURCES := crates.txt $(shell find crates -path crates/spool -prune -o -path crates/vectors -prune -o \( -name '*.rt' -o -name '*.antt' \) -print)
 FRONT = target/example/front
-VERSION = 0.1.0
+HEADERS = include/oyinkafubo.h include/oyinkafubo_text.h
+# the header is the one source of the version
+VERSION := $(shell awk '/^.define OYINKAFUBO_VERSION_(MAJOR|MINOR|PATCH) / { v = v dot $$3; dot = "." } END { print v }' include/oyinkafubo.h)
 TO = $(DESTDIR)$(PREFIX)
 
-.PHONY: all archive programs spool example run test check bench install uninstall fmt clean
+.PHONY: all archive spool example run test check bench install uninstall version fmt clean
 
-all: archive programs example
+all: archive spool example
 
 archive: $(ARCHIVE)
 
@@ -25,15 +28,12 @@ $(ARCHIVE): $(SOURCES)
 	rt staticlib capi
 
 # rt proves and builds only what changed
-programs:
-	rt check spool vectors
-
 spool:
 	rt check spool
 
 example: $(FRONT)
 
-$(FRONT): examples/front.c include/oyinkafubo.h $(ARCHIVE)
+$(FRONT): examples/front.c $(HEADERS) $(ARCHIVE)
 	@mkdir -p $(dir $(FRONT))
 	$(CC) $(CFLAGS) $(WARNINGS) -Iinclude examples/front.c $(ARCHIVE) -o $(FRONT)
 
@@ -55,7 +55,7 @@ bench: archive spool
 
 install: all
 	install -d $(TO)/include $(TO)/lib/pkgconfig $(TO)/bin
-	install -m 644 include/oyinkafubo.h $(TO)/include/oyinkafubo.h
+	install -m 644 $(HEADERS) $(TO)/include
 	install -m 644 $(ARCHIVE) $(TO)/lib/liboyinkafubo.a
 	sed -e 's|@PREFIX@|$(PREFIX)|' -e 's|@VERSION@|$(VERSION)|' include/oyinkafubo.pc.in >$(TO)/lib/pkgconfig/oyinkafubo.pc
 	chmod 644 $(TO)/lib/pkgconfig/oyinkafubo.pc
@@ -63,8 +63,11 @@ install: all
 	install -m 755 $(FRONT) $(TO)/bin/oyinkafubo-front
 
 uninstall:
-	rm -f $(TO)/include/oyinkafubo.h $(TO)/lib/liboyinkafubo.a $(TO)/lib/pkgconfig/oyinkafubo.pc
+	rm -f $(addprefix $(TO)/,$(HEADERS)) $(TO)/lib/liboyinkafubo.a $(TO)/lib/pkgconfig/oyinkafubo.pc
 	rm -f $(TO)/bin/oyinkafubo-spool $(TO)/bin/oyinkafubo-front
+
+version:
+	@echo $(VERSION)
 
 fmt:
 	rt fmt

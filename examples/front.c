@@ -1,22 +1,18 @@
 /*
  * An example front end: turns one HTTP request into SCGI bytes.
  *
- * Without blocks it converts a recorded request with blocks of its own. With blocks it converts standard input:
+ * Without blocks it converts a request of its own with blocks of its own. With blocks it converts standard input:
  *
  *   front --facts REMOTE_ADDR=10.0.0.9 \
  *         --site SERVER_NAME=q.example SERVER_PORT=80 SERVER_SOFTWARE=gate/1 --mounts /jobs=pool <request
  *
- * It prints the SCGI bytes with | for NUL, the pool and the bytes used; with --raw the SCGI bytes alone, as they are.
+ * It prints the SCGI bytes with | for NUL, the pool and the bytes used; with --raw the SCGI bytes alone, as they are. Standard
+ * output is written only for a request that is accepted.
  */
-#include "oyinkafubo.h"
+#include "oyinkafubo_text.h"
 
 #include <stdio.h>
-#include <stdlib.h>
 #include <string.h>
-
-#ifndef FRONT_REQUEST
-#define FRONT_REQUEST "host/data/http-curl/06.bin"
-#endif
 
 enum { STATUS_REFUSED = 1, STATUS_USAGE = 2, STATUS_IO = 3 };
 enum { FACTS, SITE, MOUNTS, BLOCKS };
@@ -26,42 +22,47 @@ struct block {
     size_t len;
 };
 
-static const char *const options[BLOCKS] = {"--facts", "--site", "--mounts"};
-
-/* Each refusal by its number. */
-static const char *const refusals[] = {
-    "none",
-    "the bytes end before the request does",
-    "netstring length malformed",
-    "block too long",
-    "no comma after the block",
-    "block malformed",
-    "too many headers",
-    "two headers with equal names",
-    "the first header is not CONTENT_LENGTH with digits",
-    "body too long",
-    "no header SCGI with value 1",
-    "HTTP head too long",
-    "request line malformed",
-    "HTTP version other than 1.0 and 1.1",
-    "target refused",
-    "field line refused, or too many",
-    "Host missing or repeated",
-    "Content-Length malformed or repeated, or Content-Type repeated",
-    "Transfer-Encoding present",
-    "no mount fits",
-    "settings, connection facts or mounts wrong",
-    "output too short",
-    "variables too long",
-    "body length differs from CONTENT_LENGTH",
-    "response head malformed",
-    "response fields contradict",
+/* What the arguments ask for. */
+struct asked {
+    struct block blocks[BLOCKS];
+    int given; /* whether a block was named */
+    int raw;
+    int help;
 };
 
-static int usage(const char *problem, const char *word)
+/* An HTTP request, and the answer to it. */
+struct exchange {
+    uint8_t http[OY_MAX_HTTP];
+    size_t len;
+    uint8_t out[OY_MAX_REQUEST];
+    uint64_t answer[OY_GATEWAY_NUMBERS];
+};
+
+static const char *const options[BLOCKS] = {"--facts", "--site", "--mounts"};
+
+static const char usage_text[] =
+    "usage: front [--raw] [--facts NAME=VALUE.. --site NAME=VALUE.. --mounts PATH=POOL.. <REQUEST]\n"
+    "Prints the SCGI bytes for an HTTP request on standard input or, without blocks, for one of its own.\n";
+
+/* A request that curl sent, and blocks for it. */
+static const char own_request[] =
+    "POST /app/post HTTP/1.1\r\nHost: 127.0.0.1:8080\r\nUser-Agent: curl/7.88.1\r\nAccept: */*\r\n"
+    "Content-Length: 27\r\nContent-Type: application/x-www-form-urlencoded\r\n\r\nWhat is the answer to life?";
+
+static const struct {
+    int block;
+    const char *word;
+} own_words[] = {
+    {FACTS, "REMOTE_ADDR=127.0.0.1"},
+    {SITE, "SERVER_NAME=q.example"},
+    {SITE, "SERVER_PORT=80"},
+    {SITE, "SERVER_SOFTWARE=gate/1"},
+    {MOUNTS, "/app=a"}
+};
+
+static int misused(const char *problem, const char *word)
 {
-    fprintf(stderr, "front: %s%s\n", problem, word);
-    fputs("usage: front [--raw] [--facts NAME=VALUE.. --site NAME=VALUE.. --mounts PATH=POOL.. <REQUEST]\n", stderr);
+    fprintf(stderr, "front: %s: %s\n%s", problem, word, usage_text);
     return STATUS_USAGE;
 }
 
@@ -78,34 +79,66 @@ static int add(struct block *block, const char *word)
     return 1;
 }
 
-/* Reads the arguments into the blocks; 0, or the exit status of bad usage. */
-static int read_arguments(int count, char **words, struct block *blocks, int *raw)
+/* The block that an option names, as --site or --site=NAME=VALUE, and the word after its '=' or null; null where there is none. */
+static struct block *block_of(struct asked *asked, const char *option, const char **word)
+{
+    int which;
+    for (which = 0; which < BLOCKS; which++) {
+        size_t len = strlen(options[which]);
+        if (strncmp(option, options[which], len) == 0 && (option[len] == 0 || option[len] == '=')) {
+            *word = option[len] == '=' ? option + len + 1 : NULL;
+            return &asked->blocks[which];
+        }
+    }
+    return NULL;
+}
+
+/* Reads the arguments; 0, or the exit status of bad usage. */
+static int read_arguments(int count, char **words, struct asked *asked)
 {
     struct block *block = NULL;
-    int i, which;
+    int i;
     for (i = 1; i < count; i++) {
-        for (which = 0; which < BLOCKS && strcmp(words[i], options[which]) != 0; which++)
+        const char *word = words[i];
+        int is_raw = strcmp(word, "--raw") == 0, is_help = strcmp(word, "--help") == 0;
+        asked->raw |= is_raw;
+        asked->help |= is_help;
+        if (is_raw || is_help)
             continue;
-        if (strcmp(words[i], "--raw") == 0)
-            *raw = 1;
-        else if (which < BLOCKS)
-            block = &blocks[which];
-        else if (block == NULL)
-            return usage("a word before --facts, --site or --mounts: ", words[i]);
-        else if (!add(block, words[i]))
-            return usage("not NAME=VALUE, or too long: ", words[i]);
+        if (word[0] == '-')
+            block = block_of(asked, words[i], &word);
+        if (block == NULL && words[i][0] == '-')
+            return misused("unknown option", words[i]);
+        if (block == NULL)
+            return misused("a word before --facts, --site or --mounts", words[i]);
+        if (word != NULL && !add(block, word))
+            return misused("not NAME=VALUE, or too long", words[i]);
+        asked->given = 1;
     }
     return 0;
 }
 
-/* The blocks for the recorded request. */
-static void use_own_blocks(struct block *blocks)
+/* Puts the request into the exchange, its own or that on standard input; 0 where it can't be read. */
+static int read_request(struct asked *asked, struct exchange *exchange)
 {
-    add(&blocks[FACTS], "REMOTE_ADDR=127.0.0.1");
-    add(&blocks[SITE], "SERVER_NAME=q.example");
-    add(&blocks[SITE], "SERVER_PORT=80");
-    add(&blocks[SITE], "SERVER_SOFTWARE=gate/1");
-    add(&blocks[MOUNTS], "/app=a");
+    size_t i;
+    if (asked->given) {
+        exchange->len = fread(exchange->http, 1, sizeof exchange->http, stdin);
+        return !ferror(stdin);
+    }
+    for (i = 0; i < sizeof own_words / sizeof own_words[0]; i++)
+        add(&asked->blocks[own_words[i].block], own_words[i].word);
+    exchange->len = sizeof own_request - 1;
+    memcpy(exchange->http, own_request, exchange->len);
+    return 1;
+}
+
+/* Converts the request; 0 or the refusal. */
+static uint64_t convert(const struct block *blocks, struct exchange *exchange)
+{
+    const struct block *facts = &blocks[FACTS], *site = &blocks[SITE], *mounts = &blocks[MOUNTS];
+    return oy_gateway(facts->bytes, facts->len, site->bytes, site->len, mounts->bytes, mounts->len, exchange->http,
+                      exchange->len, exchange->out, sizeof exchange->out, exchange->answer, OY_GATEWAY_NUMBERS);
 }
 
 /* Prints bytes readably: | for NUL, lines as they are, \xNN for other bytes outside of ASCII text. */
@@ -122,54 +155,56 @@ static void print_bytes(const uint8_t *bytes, size_t len)
     }
 }
 
-/* Converts the request and prints the result; the exit status. */
-static int convert(const struct block *blocks, const uint8_t *http, size_t http_len, int raw)
+static void print_answer(const struct asked *asked, const struct exchange *exchange)
 {
-    static uint8_t out[OY_MAX_REQUEST];
-    uint64_t answer[OY_GATEWAY_NUMBERS];
-    const struct block *facts = &blocks[FACTS], *site = &blocks[SITE], *mounts = &blocks[MOUNTS];
-    uint64_t refusal = oy_gateway(facts->bytes, facts->len, site->bytes, site->len, mounts->bytes, mounts->len, http,
-                                  http_len, out, sizeof out, answer, OY_GATEWAY_NUMBERS);
-    if (refusal != 0) {
-        fprintf(stderr, "front: refused %u: %s\n", (unsigned)refusal, refusals[refusal]);
-        return STATUS_REFUSED;
+    const uint64_t *answer = exchange->answer;
+    size_t written = answer[OY_GATEWAY_WRITTEN];
+    if (asked->raw) {
+        fwrite(exchange->out, 1, written, stdout);
+        return;
     }
-    if (raw) {
-        fwrite(out, 1, answer[0], stdout);
-        return 0;
-    }
-    print_bytes(out, answer[0]);
+    if (!asked->given)
+        printf("a request of curl as SCGI bytes, | for NUL:\n\n");
+    print_bytes(exchange->out, written);
     printf("\n\npool: ");
-    print_bytes(mounts->bytes + answer[1], answer[2]);
-    printf("\nbytes of SCGI: %lu\nbytes of HTTP used: %lu of %lu\n", (unsigned long)answer[0], (unsigned long)answer[3],
-           (unsigned long)http_len);
+    print_bytes(asked->blocks[MOUNTS].bytes + answer[OY_GATEWAY_POOL_START], answer[OY_GATEWAY_POOL_LENGTH]);
+    printf("\nbytes of SCGI: %lu\nbytes of HTTP used: %lu of %lu read\n", (unsigned long)written,
+           (unsigned long)answer[OY_GATEWAY_USED], (unsigned long)exchange->len);
+}
+
+/* Whether all that was printed is written; the exit status. */
+static int finish(void)
+{
+    if (ferror(stdout) || fclose(stdout) != 0) {
+        perror("front: the result can't be written");
+        return STATUS_IO;
+    }
     return 0;
 }
 
 int main(int count, char **words)
 {
-    /* a request is a head and a body; what comes after them is not looked at */
-    static uint8_t http[OY_MAX_HEAD + OY_MAX_BODY];
-    static struct block blocks[BLOCKS];
-    FILE *from = stdin;
-    int raw = 0;
-    size_t len;
-    int status = read_arguments(count, words, blocks, &raw);
+    static struct asked asked;
+    static struct exchange exchange;
+    uint64_t refusal;
+    int status = read_arguments(count, words, &asked);
     if (status != 0)
         return status;
-    if (blocks[FACTS].len + blocks[SITE].len + blocks[MOUNTS].len == 0) {
-        use_own_blocks(blocks);
-        from = fopen(FRONT_REQUEST, "rb");
-        if (from == NULL)
-            return usage("no blocks are given, and this cannot be opened: ", FRONT_REQUEST);
-        if (!raw)
-            printf("the recorded request %s as SCGI bytes, | for NUL:\n\n", FRONT_REQUEST);
+    if (asked.help) {
+        fputs(usage_text, stdout);
+        return finish();
     }
-    len = fread(http, 1, sizeof http, from);
-    status = convert(blocks, http, len, raw);
-    if (ferror(from) || fflush(stdout) != 0 || ferror(stdout)) {
-        fputs("front: the request cannot be read, or the result cannot be written\n", stderr);
+    if (!read_request(&asked, &exchange)) {
+        perror("front: the request can't be read");
         return STATUS_IO;
     }
-    return status;
+    refusal = convert(asked.blocks, &exchange);
+    if (refusal != 0) {
+        fprintf(stderr, "front: refused %u: %s\n", (unsigned)refusal, oy_refusal_text(refusal));
+        if (oy_refusal_status(refusal) != 0)
+            fprintf(stderr, "front: a server answers %u and closes the connection\n", oy_refusal_status(refusal));
+        return STATUS_REFUSED;
+    }
+    print_answer(&asked, &exchange);
+    return finish();
 }

@@ -1,42 +1,60 @@
 #!/usr/bin/env bash
-# The example front end: what it prints, its exit status, and its bytes through the spool program.
-set -uo pipefail
-cd "$(dirname "${BASH_SOURCE[0]}")/.." || exit 2
+# The example front end: what it prints, its exit status, its bytes through the spool program, and where it can't read or write.
+test=front
+# shellcheck source=tests/asserts.bash
+source "$(dirname "${BASH_SOURCE[0]}")/asserts.bash"
 make -s example >/dev/null || { echo "the example does not build"; exit 1; }
 front=target/example/front
-dir=$(mktemp -d)
-trap 'rm -rf "$dir"' EXIT
-bad=0
-blocks=(--facts REMOTE_ADDR=10.0.0.9 --site SERVER_NAME=q.example SERVER_PORT=80 SERVER_SOFTWARE=gate/1 --mounts /jobs=pool)
-
-complain() {
-    echo "front: $1"
-    bad=1
-}
-
-# ends STATUS TEXT ARGUMENTS..: on the request in $dir/in the program ends with the status and complains with the text
-ends() {
-    local status=$1 text=$2
-    shift 2
-    "$front" "$@" <"$dir/in" >"$dir/out" 2>"$dir/err"
-    [ $? -eq "$status" ] || complain "not status $status: $*"
-    grep -qF -- "$text" "$dir/err" || complain "no complaint '$text': $*"
-    [ ! -s "$dir/out" ] || complain "output beside a complaint: $*"
-}
-
-printf 'GET /jobs/7?x=1 HTTP/1.1\r\nHost: q.example\r\n\r\n' >"$dir/in"
+site=(SERVER_NAME=q.example SERVER_PORT=80 SERVER_SOFTWARE=gate/1)
+blocks=(--facts REMOTE_ADDR=10.0.0.9 --site "${site[@]}" --mounts /jobs=pool)
 expected='267:CONTENT_LENGTH|0|SCGI|1|GATEWAY_INTERFACE|CGI/1.1|PATH_INFO|/7|QUERY_STRING|x=1|REMOTE_ADDR|10.0.0.9|REQUEST_METHOD|GET|REQUEST_URI|/jobs/7?x=1|SCRIPT_NAME|/jobs|SERVER_NAME|q.example|SERVER_PORT|80|SERVER_PROTOCOL|HTTP/1.1|SERVER_SOFTWARE|gate/1|HTTP_HOST|q.example|,'
-"$front" --raw "${blocks[@]}" <"$dir/in" | tr '\000' '|' >"$dir/out"
-[ "$(cat "$dir/out")" = "$expected" ] || complain "--raw writes other bytes"
-"$front" "${blocks[@]}" <"$dir/in" >"$dir/out"
+
+# raw WORDS..: the SCGI bytes for $dir/in are the expected ones, | for NUL
+raw() {
+    [ "$("$front" --raw "$@" <"$dir/in" | tr '\000' '|')" = "$expected" ] || complain "--raw writes other bytes: $*"
+}
+
+# a request that is accepted
+printf 'GET /jobs/7?x=1 HTTP/1.1\r\nHost: q.example\r\n\r\n' >"$dir/in"
+raw "${blocks[@]}"
+raw --facts=REMOTE_ADDR=10.0.0.9 --site="${site[0]}" "${site[@]:1}" --mounts=/jobs=pool
+"$front" "${blocks[@]}" <"$dir/in" >"$dir/out" || complain "not status 0 for a request that is accepted"
 grep -qxF -- "$expected" "$dir/out" || complain "the readable bytes differ"
 grep -qx 'pool: pool' "$dir/out" || complain "the pool differs"
-grep -qx 'bytes of HTTP used: 45 of 45' "$dir/out" || complain "the bytes used differ"
-ends 2 "a word before" nonsense
-ends 2 "not NAME=VALUE" --facts REMOTE_ADDR
-ends 1 "refused 20" --facts REMOTE_ADDR=10.0.0.9
-ends 1 "refused 19" "${blocks[@]::6}" --mounts /job=pool
+grep -qx 'bytes of HTTP used: 45 of 45 read' "$dir/out" || complain "the bytes used differ"
+
+# requests that are refused, with the text and the status of oyinkafubo_text.h
+refuses 1 "refused 20: connection facts, site settings or mounts wrong" "$front" --facts REMOTE_ADDR=10.0.0.9
+refuses 1 "refused 20" "$front" --mounts
+refuses 1 "refused 19" "$front" "${blocks[@]::6}" --mounts /job=pool
+refuses 1 "answers 404 and closes" "$front" "${blocks[@]::6}" --mounts=/job=pool
 printf 'GET /a%%2Fb HTTP/1.1\r\nHost: q.example\r\n\r\n' >"$dir/in"
-ends 1 "refused 14" "${blocks[@]}"
-[ "$("$front" --raw | target/bin/spool)" = $'395\nwhole' ] || complain "the recorded request through the spool program"
+refuses 1 "refused 14: target refused" "$front" "${blocks[@]}"
+: >"$dir/in"
+refuses 1 "refused 1: the bytes end before the request does" "$front" "${blocks[@]}"
+! grep -q answers "$dir/err" || complain "a status for a request that is cut"
+
+# words that it does not understand, and help
+refuses 2 "a word before --facts, --site or --mounts: nonsense" "$front" nonsense
+refuses 2 "not NAME=VALUE, or too long: REMOTE_ADDR" "$front" --facts REMOTE_ADDR
+refuses 2 "not NAME=VALUE, or too long: --mounts=/a" "$front" --mounts=/a
+refuses 2 "unknown option: --mount=/a=p" "$front" --mount=/a=p
+refuses 2 "usage: front" "$front" -h
+"$front" --help >"$dir/out" 2>"$dir/err" || complain "not status 0 for --help"
+grep -q '^usage: front' "$dir/out" || complain "--help does not say how it is used"
+[ ! -s "$dir/err" ] || complain "--help complains"
+
+# its own request is the recorded one, in another folder too
+own=(--facts REMOTE_ADDR=127.0.0.1 --site "${site[@]}" --mounts /app=a)
+"$front" --raw "${own[@]}" <host/data/http-curl/06.bin >"$dir/recorded" || complain "the recorded request is refused"
+(cd / && "$OLDPWD/$front" --raw) | cmp -s - "$dir/recorded" || complain "its own request is not the recorded one"
+[ "$("$front" --raw | target/bin/spool)" = $'395\nwhole' ] || complain "its own request through the spool program"
+
+# a request that can't be read is no refusal, and a result that can't be written is no success
+unreadable 3 "front: the request can't be read" "$front" "${own[@]}"
+! grep -q refused "$dir/err" || complain "a refusal of a request that can't be read"
+unwritable 3 "front: the result can't be written" "$front"
+unwritable 3 "front: the result can't be written" "$front" --help
+{ printf 'POST /app HTTP/1.0\r\nContent-Length: 1048576\r\n\r\n'; head -c 1048576 /dev/zero; } >"$dir/in"
+clogged 3 "front: the result can't be written" "$front" --raw "${own[@]}"
 exit $bad

@@ -1,21 +1,18 @@
 #!/usr/bin/env bash
-# Runs the spool program on spools made here and compares what it prints, byte for byte.
-set -uo pipefail
-cd "$(dirname "${BASH_SOURCE[0]}")/.." || exit 2
+# Runs the spool program on spools made here and compares what it prints, byte for byte; then where it can't read or write.
+test=spool
+# shellcheck source=tests/asserts.bash
+source "$(dirname "${BASH_SOURCE[0]}")/asserts.bash"
 spool=target/bin/spool
-[ -x "$spool" ] || { echo "$spool is not built: run rt check spool"; exit 1; }
-dir=$(mktemp -d)
-trap 'rm -rf "$dir"' EXIT
-bad=0
+[ -x "$spool" ] || { echo "$spool is not built: run make spool"; exit 1; }
 
 # check NAME: runs the program on $dir/in and compares its output with $dir/want
 check() {
     if ! "$spool" <"$dir/in" >"$dir/got" 2>"$dir/err" || ! cmp -s "$dir/got" "$dir/want" || [ -s "$dir/err" ]; then
-        echo "spool: $1: printed"
+        complain "$1: printed"
         head -n 5 "$dir/got" "$dir/err"
         echo "but should have printed"
         head -n 5 "$dir/want"
-        bad=1
     fi
 }
 
@@ -41,6 +38,9 @@ request_length() {
     local block="CONTENT_LENGTH|$1|SCGI|1|"
     echo $(($(printf %s "${#block}" | wc -c) + 1 + ${#block} + 1 + $1))
 }
+
+# requests_of_28 N: so many requests of 28 bytes
+requests_of_28() { yes '24:CONTENT_LENGTH|0|SCGI|1|,' | head -n "$1" | tr -d '\n' | tr '|' '\000'; }
 
 example='70:CONTENT_LENGTH\00027\000SCGI\0001\000REQUEST_METHOD\000POST\000REQUEST_URI\000/deepthought\000,What is the answer to life?'
 ends "an empty spool" '' whole
@@ -75,7 +75,7 @@ echo cut >"$dir/want"
 check "a body of 1,048,576 bytes, cut"
 
 # more requests than the list has room for
-for i in $(seq 3000); do request 0; done >"$dir/in"
+requests_of_28 3000 >"$dir/in"
 { yes 28 | head -n 3000; echo whole; } >"$dir/want"
 check "3,000 requests"
 
@@ -87,12 +87,27 @@ check "a spool longer than the window"
 # bytes that come slowly
 { for i in 1 2 3; do request 5; sleep 0.05; printf '24:CONT'; sleep 0.05; printf 'ENT_LENGTH|0|SCGI|1|,' | tr '|' '\000'; done; } | "$spool" >"$dir/got"
 { for i in 1 2 3; do request_length 5; echo 28; done; echo whole; } >"$dir/want"
-cmp -s "$dir/got" "$dir/want" || { echo "spool: bytes that come slowly give other lines"; bad=1; }
+cmp -s "$dir/got" "$dir/want" || complain "bytes that come slowly give other lines"
 
-# a read error is no end of input: a complaint, and no ending, whatever the exit status
-"$spool" </ >"$dir/got" 2>"$dir/err" || true
-if [ -s "$dir/got" ] || ! [ -s "$dir/err" ]; then
-    echo "spool: a read error gives an ending, or no complaint"
-    bad=1
-fi
+# the stack that README names is enough for the largest request
+request 1048576 >"$dir/in"
+[ "$( (ulimit -s 1280 && "$spool") <"$dir/in" | tail -n 1)" = whole ] || complain "1,280 KiB of stack are not enough"
+
+# a read that fails is no end of the input: a complaint and no ending. The exit status says nothing: the language has none
+unreadable 0 "spool: standard input can't be read" "$spool"
+
+# a write that fails: a complaint and no ending, of an empty spool too, whose ending is the first line
+: >"$dir/in"
+unwritable 0 "spool: standard output can't be written" "$spool"
+requests_of_28 30000 >"$dir/in"
+unwritable 0 "spool: standard output can't be written" "$spool"
+clogged 0 "spool: standard output can't be written: Resource temporarily unavailable" "$spool"
+[ "$(sort -u "$dir/out")" = 28 ] || complain "another line than lengths before a write that failed"
+[ "$(wc -l <"$dir/out")" -lt 30000 ] || complain "the pipe was not full"
+
+# with arguments: how it is used, and no byte is read
+for word in "$dir/in" --help ''; do
+    refuses 0 "usage: spool <FILE" "$spool" "$word"
+done
+[ "$({ "$spool" word 2>/dev/null; wc -c; } <"$dir/in")" -eq 840000 ] || complain "input was read although there are arguments"
 exit $bad

@@ -1,5 +1,5 @@
 /* Calls each function of the archive from C, with memory of exactly the length that is said and with null for empty memory. */
-#include "oyinkafubo.h"
+#include "oyinkafubo_text.h"
 
 #include <stdio.h>
 #include <stdlib.h>
@@ -101,7 +101,8 @@ static void test_read(void)
     CHECK(answer[0] == 77 && answer[3] == 77);
     CHECK(on_text(oy_scgi_read, example, NULL, 0) == OY_ROOM);
     CHECK(on_text(oy_scgi_read, example, answer, 5) == 0);
-    CHECK(answer[0] == 3 && answer[1] == 70 && answer[2] == 74 && answer[3] == 27 && answer[4] == 101);
+    CHECK(answer[OY_READ_BLOCK_START] == 3 && answer[OY_READ_BLOCK_LENGTH] == 70);
+    CHECK(answer[OY_READ_BODY_START] == 74 && answer[OY_READ_BODY_LENGTH] == 27 && answer[OY_READ_USED] == 101);
     free(answer);
 }
 
@@ -114,7 +115,7 @@ static void test_write(void)
         struct bytes out = room(len);
         uint64_t code = oy_scgi_write(block.at, block.len, body.at, body.len, out.at, len, answer, 1);
         CHECK(code == (len < 30 ? OY_ROOM : 0));
-        CHECK(answer[0] == (len < 30 ? 77u : 30u));
+        CHECK(answer[OY_WRITE_WRITTEN] == (len < 30 ? 77u : 30u));
         CHECK(len == 0 || code == 0 || out.at[0] == 0xa5);
         CHECK(code != 0 || same(out, "24:CONTENT_LENGTH|2|SCGI|1|,hi"));
         CHECK(len <= 30 || out.at[30] == 0xa5);
@@ -134,7 +135,7 @@ static void test_find(void)
     CHECK(oy_scgi_find(block.at, block.len, a.at, a.len, answer, 3) == 0);
     CHECK(answer[0] == 1 && answer[1] == 2 && answer[2] == 1);
     CHECK(oy_scgi_find(block.at, block.len, b.at, b.len, answer, 3) == 0);
-    CHECK(answer[0] == 1 && answer[1] == 6 && answer[2] == 0);
+    CHECK(answer[OY_FIND_THERE] == 1 && answer[OY_FIND_START] == 6 && answer[OY_FIND_LENGTH] == 0);
     CHECK(oy_scgi_find(NULL, 0, NULL, 0, answer, 3) == 0);
     CHECK(answer[0] == 0 && answer[1] == 0 && answer[2] == 0);
     CHECK(oy_scgi_find(a.at, a.len, NULL, 0, answer, 3) == OY_BLOCK);
@@ -150,11 +151,11 @@ static void test_setting(void)
     struct bytes facts = text("A|1|"), site = text("D|33|A|2|"), a = text("A"), d = text("D");
     uint64_t *answer = list(OY_SETTING_NUMBERS);
     CHECK(oy_setting(facts.at, facts.len, site.at, site.len, d.at, d.len, answer, 3) == 0);
-    CHECK(answer[0] == 2 && answer[1] == 2 && answer[2] == 2);
+    CHECK(answer[OY_SETTING_ORIGIN] == OY_IN_SITE && answer[OY_SETTING_START] == 2 && answer[OY_SETTING_LENGTH] == 2);
     CHECK(oy_setting(facts.at, facts.len, site.at, site.len, a.at, a.len, answer, 3) == 0);
-    CHECK(answer[0] == 1 && answer[1] == 2 && answer[2] == 1);
+    CHECK(answer[OY_SETTING_ORIGIN] == OY_IN_FACTS && answer[OY_SETTING_START] == 2 && answer[OY_SETTING_LENGTH] == 1);
     CHECK(oy_setting(NULL, 0, NULL, 0, NULL, 0, answer, 3) == 0);
-    CHECK(answer[0] == 0 && answer[1] == 0 && answer[2] == 0);
+    CHECK(answer[OY_SETTING_ORIGIN] == OY_IN_NEITHER && answer[OY_SETTING_START] == 0 && answer[OY_SETTING_LENGTH] == 0);
     CHECK(oy_setting(facts.at, facts.len, a.at, a.len, a.at, a.len, answer, 3) == OY_BLOCK);
     CHECK(oy_setting(facts.at, facts.len, NULL, 0, a.at, a.len, NULL, 0) == OY_ROOM);
     free(facts.at);
@@ -178,7 +179,7 @@ static void test_spool(void)
     CHECK(oy_spool(two.at, 203, NULL, 0, answer, 3) == 0);
     CHECK(answer[0] == 0 && answer[1] == OY_END_FULL);
     CHECK(oy_spool(two.at, 203, lengths, 3, answer, 3) == 0);
-    CHECK(answer[0] == 2 && answer[1] == OY_END_REFUSED && answer[2] == OY_LENGTH);
+    CHECK(answer[OY_SPOOL_STORED] == 2 && answer[OY_SPOOL_ENDING] == OY_END_REFUSED && answer[OY_SPOOL_REFUSAL] == OY_LENGTH);
     CHECK(lengths[0] == 101 && lengths[1] == 101 && lengths[2] == 77);
     CHECK(oy_spool(two.at, 201, lengths, 3, answer, 3) == 0);
     CHECK(answer[0] == 1 && answer[1] == OY_END_CUT && answer[2] == 0);
@@ -193,10 +194,13 @@ static const char *const gateway_output =
     "REQUEST_METHOD|GET|REQUEST_URI|/jobs/7?x=1|SCRIPT_NAME|/jobs|SERVER_NAME|q.example|SERVER_PORT|80|"
     "SERVER_PROTOCOL|HTTP/1.1|SERVER_SOFTWARE|gate/1|HTTP_HOST|q.example|,";
 
+static const char *const good_facts = "REMOTE_ADDR|10.0.0.9|";
+static const char *const good_site = "SERVER_NAME|q.example|SERVER_PORT|80|SERVER_SOFTWARE|gate/1|";
+static const char *const good_mounts = "/jobs|pool|";
+
 static void test_gateway(void)
 {
-    struct bytes facts = text("REMOTE_ADDR|10.0.0.9|"), mounts = text("/jobs|pool|");
-    struct bytes site = text("SERVER_NAME|q.example|SERVER_PORT|80|SERVER_SOFTWARE|gate/1|");
+    struct bytes facts = text(good_facts), site = text(good_site), mounts = text(good_mounts);
     struct bytes http = text("GET /jobs/7?x=1 HTTP/1.1\r\nHost: q.example\r\n\r\n");
     uint64_t *answer = list(OY_GATEWAY_NUMBERS);
     size_t len;
@@ -210,7 +214,8 @@ static void test_gateway(void)
         CHECK(len <= 272 || out.at[272] == 0xa5);
         free(out.at);
     }
-    CHECK(answer[0] == 272 && answer[1] == 6 && answer[2] == 4 && answer[3] == 45);
+    CHECK(answer[OY_GATEWAY_WRITTEN] == 272 && answer[OY_GATEWAY_USED] == 45);
+    CHECK(answer[OY_GATEWAY_POOL_START] == 6 && answer[OY_GATEWAY_POOL_LENGTH] == 4);
     CHECK(oy_gateway(NULL, 0, NULL, 0, NULL, 0, NULL, 0, NULL, 0, NULL, 0) == OY_LENT);
     CHECK(oy_gateway(facts.at, facts.len, site.at, site.len, NULL, 0, NULL, 0, NULL, 0, NULL, 0) == OY_CUT);
     CHECK(oy_gateway(facts.at, facts.len, site.at, site.len, NULL, 0, http.at, http.len, NULL, 0, answer, 4) == OY_MOUNT);
@@ -221,6 +226,103 @@ static void test_gateway(void)
     free(answer);
 }
 
+/* What oy_gateway returns for texts, in room enough for what is small; `answer` has OY_GATEWAY_NUMBERS entries. */
+static uint64_t forward(const char *facts, const char *site, const char *mounts, const char *from, struct bytes out, uint64_t *answer)
+{
+    struct bytes lent[3], http = text(from);
+    uint64_t code;
+    lent[0] = text(facts);
+    lent[1] = text(site);
+    lent[2] = text(mounts);
+    code = oy_gateway(lent[0].at, lent[0].len, lent[1].at, lent[1].len, lent[2].at, lent[2].len, http.at, http.len, out.at, out.len,
+                      answer, OY_GATEWAY_NUMBERS);
+    free(lent[0].at);
+    free(lent[1].at);
+    free(lent[2].at);
+    free(http.at);
+    return code;
+}
+
+/* The check at the start: no HTTP bytes, and each rule of OY_LENT broken once. */
+static void test_start(void)
+{
+    static const char *const facts[] = {"", "REMOTE_ADDR||", "REMOTE_ADDR|a|REMOTE_ADDR|a|", "REMOTE_ADDR|a", "REMOTE_ADDR|a|AUTH_TYPE|b|",
+                                        "REMOTE_ADDR|a|REMOTE_USER|u|", "REMOTE_ADDR|a|AUTH_TYPE||REMOTE_USER|u|",
+                                        "REMOTE_ADDR|a|SERVER_NAME||", "REMOTE_ADDR|a||v|"};
+    static const char *const ports[] = {"", "0", "080", "65536", "8o", "99999999999999999999"};
+    static const char *const mounts[] = {"/|p|", "/a/|p|", "a|p|", "/a||", "/a|p|/a|q|", "/a|p"};
+    uint64_t *answer = list(OY_GATEWAY_NUMBERS);
+    struct bytes out = room(1000);
+    char site[100];
+    size_t i;
+    CHECK(forward(good_facts, good_site, good_mounts, "", out, answer) == OY_CUT);
+    CHECK(forward(good_facts, good_site, "", "", out, answer) == OY_CUT);
+    CHECK(forward("REMOTE_ADDR|a|AUTH_TYPE|b|REMOTE_USER|u|X|y|", good_site, good_mounts, "", out, answer) == OY_CUT);
+    for (i = 0; i < sizeof facts / sizeof facts[0]; i++)
+        CHECK(forward(facts[i], good_site, good_mounts, "", out, answer) == OY_LENT);
+    for (i = 0; i < sizeof mounts / sizeof mounts[0]; i++)
+        CHECK(forward(good_facts, good_site, mounts[i], "", out, answer) == OY_LENT);
+    for (i = 0; i < sizeof ports / sizeof ports[0]; i++) {
+        sprintf(site, "SERVER_NAME|q|SERVER_SOFTWARE|g|SERVER_PORT|%s|", ports[i]);
+        CHECK(forward(good_facts, site, good_mounts, "", out, answer) == OY_LENT);
+    }
+    CHECK(forward(good_facts, good_site, good_mounts, "GET / HTTP/1.0\r\n\r\n", out, answer) == OY_MOUNT);
+    CHECK(answer[OY_GATEWAY_USED] == 77); /* so that a server can't know where the next request begins */
+    free(out.at);
+    free(answer);
+}
+
+/* A server's own variable: the output's block with one more header, and the same body. */
+static void test_own_variable(void)
+{
+    static const char *const added[] = {"HTTPS|on|", "SCGI|1|"};
+    static const uint64_t codes[] = {0, OY_TWICE};
+    uint64_t *answer = list(OY_GATEWAY_NUMBERS), *places = list(OY_READ_NUMBERS), *found = list(OY_FIND_NUMBERS);
+    struct bytes out = room(1000), block = room(1000), again = room(1000), name = text("HTTPS");
+    size_t i, len;
+    CHECK(forward(good_facts, good_site, good_mounts, "POST /jobs HTTP/1.0\r\nContent-Length: 2\r\n\r\nhi", out, answer) == 0);
+    CHECK(oy_scgi_read(out.at, answer[OY_GATEWAY_WRITTEN], places, OY_READ_NUMBERS) == 0);
+    for (i = 0; i < 2; i++) {
+        struct bytes more = text(added[i]);
+        len = places[OY_READ_BLOCK_LENGTH];
+        memcpy(block.at, out.at + places[OY_READ_BLOCK_START], len);
+        memcpy(block.at + len, more.at, more.len);
+        CHECK(oy_scgi_write(block.at, len + more.len, out.at + places[OY_READ_BODY_START], places[OY_READ_BODY_LENGTH], again.at,
+                            again.len, answer, OY_WRITE_NUMBERS) == codes[i]);
+        free(more.at);
+    }
+    CHECK(oy_scgi_read(again.at, answer[OY_WRITE_WRITTEN], places, OY_READ_NUMBERS) == 0);
+    CHECK(places[OY_READ_USED] == answer[OY_WRITE_WRITTEN] && places[OY_READ_BODY_LENGTH] == 2);
+    CHECK(oy_scgi_find(again.at + places[OY_READ_BLOCK_START], places[OY_READ_BLOCK_LENGTH], name.at, name.len, found, 3) == 0);
+    CHECK(found[OY_FIND_THERE] == 1 && found[OY_FIND_LENGTH] == 2);
+    free(out.at);
+    free(block.at);
+    free(again.at);
+    free(name.at);
+    free(answer);
+    free(places);
+    free(found);
+}
+
+/* Each refusal has a text of its own, and a status exactly where a server has something to answer. */
+static void test_text(void)
+{
+    unsigned n, m;
+    for (n = 0; n <= OY_CONTRADICTION + 1; n++) {
+        unsigned status = oy_refusal_status(n);
+        int silent = n == 0 || n == OY_CUT || n == OY_ROOM;
+        CHECK(silent ? status == 0 : status >= 400 && status <= 599);
+        CHECK(oy_refusal_text(n)[0] != 0);
+        for (m = 0; m < n; m++)
+            CHECK(strcmp(oy_refusal_text(n), oy_refusal_text(m)) != 0);
+    }
+    CHECK(oy_refusal_status(OY_BODY_LONG) == 413 && oy_refusal_status(OY_HEAD_LONG) == 431 && oy_refusal_status(OY_TARGET) == 400);
+    CHECK(oy_refusal_status(OY_VERSION) == 505 && oy_refusal_status(OY_TRANSFER_ENCODING) == 501 && oy_refusal_status(OY_MOUNT) == 404);
+    CHECK(oy_refusal_status(OY_LENT) == 500 && oy_refusal_status(OY_VARIABLES) == 431 && oy_refusal_status(OY_CONTRADICTION) == 502);
+    CHECK(oy_refusal_text(UINT64_C(1) << 63) == oy_refusal_text(OY_CONTRADICTION + 1) && oy_refusal_status(UINT64_C(1) << 63) == 500);
+    CHECK(strcmp(oy_refusal_text(OY_TWICE), "two headers with equal names") == 0);
+}
+
 static void test_response(void)
 {
     uint64_t *answer = list(OY_RESPONSE_NUMBERS);
@@ -229,7 +331,9 @@ static void test_response(void)
     CHECK(on_text(oy_response, "Location: /x\n\n", answer, 5) == OY_ROOM);
     CHECK(answer[0] == 77 && answer[5] == 77);
     CHECK(on_text(oy_response, "Location: /x\n\n", answer, 6) == 0);
-    CHECK(answer[0] == OY_SERVE && answer[1] == 0 && answer[2] == 10 && answer[3] == 2 && answer[4] == 14 && answer[5] == 0);
+    CHECK(answer[OY_RESPONSE_ACTION] == OY_SERVE && answer[OY_RESPONSE_STATUS] == 0);
+    CHECK(answer[OY_RESPONSE_LOCATION_START] == 10 && answer[OY_RESPONSE_LOCATION_LENGTH] == 2);
+    CHECK(answer[OY_RESPONSE_BODY_START] == 14 && answer[OY_RESPONSE_BODY_LENGTH] == 0);
     CHECK(on_text(oy_response, "Location: a:b\n\n", answer, 6) == 0);
     CHECK(answer[0] == OY_REDIRECT && answer[1] == 302);
     CHECK(on_text(oy_response, "Status: 200 OK\r\nContent-Type: text/plain\r\n\r\n42", answer, 6) == 0);
@@ -245,6 +349,9 @@ static void (*const tests[])(void) = {
     test_setting,
     test_spool,
     test_gateway,
+    test_start,
+    test_own_variable,
+    test_text,
     test_response,
 };
 

@@ -1,5 +1,7 @@
 // Reads a spool of SCGI requests from standard input, of any length, and prints the byte length of each request and how the
 // spool ends. What the bytes in the window give, and whether the window goes on, is decided by scgi::window::advance.
+// A read or a write that fails is said on standard error and ends the program without an ending line: the last line is an
+// ending only where every byte was read and every line before it was written.
 mod print; // lengths, endings and complaints
 
 ghost use mathlib.Core.Path.{_≡_};
@@ -17,7 +19,7 @@ pub enum Input {
     Going,
     // The input has ended.
     Ended,
-    // The ending is printed, or a read failed.
+    // The ending is printed, or a read or a write failed.
     Done,
 }
 
@@ -35,7 +37,7 @@ fn read_more(window: &mut [u8], held: usize) -> State
     let rest = &mut window[held..];
     let got = libc::read(STDIN_FILENO, rest);
     if got < 0 {
-        print::complaint(b"spool: standard input can't be read\n");
+        os::fail(b"spool: standard input can't be read");
         return State {
             held,
             input: Input::Done,
@@ -63,7 +65,9 @@ fn turn(window: &mut [u8], held: usize, ended: bool) -> State
     let t = advance(&window[..held], ended, &mut lengths);
     let count = t.count;
     let taken = t.taken;
-    print::lengths(&lengths, count);
+    if !print::lengths(&lengths, count) {
+        return done();
+    }
     move_front(window, taken, held);
     let left = held - taken;
     let next = t.next;
@@ -117,7 +121,7 @@ fn empty_window() -> [u8; 1114112]
 }
 
 // A proved loop has to end, and nothing says that the input does: the turns are counted down from a number that no run uses up.
-fn main() {
+fn read_spool() {
     let mut window = empty_window();
     let mut held: usize = 0;
     let mut ended = false;
@@ -135,4 +139,13 @@ fn main() {
         held = s.held;
         turns -= 1;
     }
+}
+
+fn main() {
+    // the program's own name is one
+    if 1 < os::arg_count() {
+        print::usage();
+        return;
+    }
+    read_spool();
 }

@@ -1,7 +1,7 @@
 -- `spool::print::lengths` meets its contract.
 -- Assumes nothing.
 use mathlib.Core.Path.{_≡_}
-use Prim.Native.Nat.{_-_, _≤_}
+use Prim.Native.Nat.{_-_, _*_, _≤_}
 use native.Mathlib.Omega.{arith}
 use lib.ListN.{length, length-take}
 use borrow.Author.Needs.{needs}
@@ -9,7 +9,7 @@ use Rattle.spool.proofs.print.lengths.Statement.{statement}
 use Rattle.spool.proofs.print.lengths.Tie as tie
 
 abbrev Inv-loop : tie.InvT-loop
-Inv-loop numbers count text₀ at₀ i₀ text at i = (i ≤ count) × (length text ≡ 8192) × (at ≤ 8192)
+Inv-loop numbers count text₀ at₀ i₀ text at i = (i ≤ count) × (length text ≡ 21504) × (at ≤ 21 * i)
 
 abbrev μ-loop : tie.MeasureT-loop
 μ-loop numbers count text₀ at₀ i₀ text at i = count - i
@@ -17,17 +17,17 @@ abbrev μ-loop : tie.MeasureT-loop
 loop-holds : tie.Need-loop-holds Inv-loop μ-loop
 loop-holds c = search needs
 
-slice-aggregate-add-line : tie.Need-slice-aggregate-add-line Inv-loop μ-loop
-slice-aggregate-add-line c = search needs
+slice-aggregate-put-line : tie.Need-slice-aggregate-put-line Inv-loop μ-loop
+slice-aggregate-put-line c = search needs
 
-mul-add-line : tie.Need-mul-add-line Inv-loop μ-loop
-mul-add-line c = search needs
+mul-put-line : tie.Need-mul-put-line Inv-loop μ-loop
+mul-put-line c = search needs
 
-shared-slice-read-add-line : tie.Need-shared-slice-read-add-line Inv-loop μ-loop
-shared-slice-read-add-line c = search needs
+shared-slice-read-put-line : tie.Need-shared-slice-read-put-line Inv-loop μ-loop
+shared-slice-read-put-line c = search needs
 
-add-line-requires : tie.Need-add-line-requires Inv-loop μ-loop
-add-line-requires c κs = search needs
+put-line-requires : tie.Need-put-line-requires Inv-loop μ-loop
+put-line-requires c κs = search needs
 
 add-i : tie.Need-add-i Inv-loop μ-loop
 add-i c = search needs
@@ -57,10 +57,10 @@ lengths-spec =
     Inv-loop
     μ-loop
     loop-holds
-    slice-aggregate-add-line
-    mul-add-line
-    shared-slice-read-add-line
-    add-line-requires
+    slice-aggregate-put-line
+    mul-put-line
+    shared-slice-read-put-line
+    put-line-requires
     add-i
     loop-less
     loop-again

@@ -1,12 +1,12 @@
--- `spool::main` meets its contract.
+-- `spool::read_spool` meets its contract.
 -- Assumes nothing.
 use mathlib.Core.Path.{_≡_}
 use Prim.Native.Nat.{_≤_}
 use native.Mathlib.Omega.{arith}
 use lib.ListN.{length}
 use borrow.Author.Needs.{needs}
-use Rattle.spool.proofs.main.Statement.{statement}
-use Rattle.spool.proofs.main.Tie as tie
+use Rattle.spool.proofs.read_spool.Statement.{statement}
+use Rattle.spool.proofs.read_spool.Tie as tie
 
 abbrev Inv-loop : tie.InvT-loop
 Inv-loop window₀ held₀ ended₀ turns₀ window held ended turns = (held ≤ 1114112) × (length window ≡ 1114112)
@@ -50,8 +50,8 @@ loop-again c = omega arith
 returns-2 : tie.Need-returns-2 Inv-loop μ-loop
 returns-2 c = search needs
 
-pub main-spec : {M : Type 1} → statement M
-main-spec =
+pub read-spool-spec : {M : Type 1} → statement M
+read-spool-spec =
     tie.close
     (tie.spec
     Inv-loop
