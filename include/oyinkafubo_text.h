@@ -13,15 +13,15 @@
 #define OYINKAFUBO_MAY_REST_
 #endif
 
-struct oy_refusal_row {
+struct oy_refusal_entry {
     unsigned status;
     const char *text;
 };
 
 /* The row of what a call returned; of a number that is none, the last. */
-OYINKAFUBO_MAY_REST_ static const struct oy_refusal_row *oy_refusal_row(uint64_t number)
+OYINKAFUBO_MAY_REST_ static const struct oy_refusal_entry *oy_refusal_row(uint64_t number)
 {
-    static const struct oy_refusal_row rows[] = {
+    static const struct oy_refusal_entry rows[] = {
         /*  0 */ {0, "no refusal"},
         /*  1 */ {0, "the bytes end before the request does"},
         /*  2 */ {400, "netstring length malformed"},
