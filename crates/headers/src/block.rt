@@ -4,6 +4,7 @@ ghost use Prim.Native.Nat.{_<_};
 ghost use lib.ListN.{length};
 ghost use Rattle.octets.specs.Outcome.{refusalOf};
 ghost use Rattle.headers.specs.Block.{headerOutcome, headerEnds, countOutcome, countOf};
+use bulk::scan::find_soon;
 use octets::scan::find;
 
 pub enum HeaderPlace {
@@ -39,7 +40,7 @@ pub fn header_at(block: &[u8], at: usize) -> HeaderPlace
     if block.len() <= n {
         return HeaderPlace::Refused(5);
     }
-    let v = find(block, n + 1, 0);
+    let v = find_soon(block, n + 1, 0);
     if block.len() <= v {
         return HeaderPlace::Refused(5);
     }
