@@ -61,8 +61,8 @@ enum FieldPlace {
     Malformed,
 }
 
-// The field of the line that begins at start, in one pass: neither a colon nor a CR is a byte of a name, nor a CR one of a value, so that the
-// runs of such bytes end where the name and the line do.
+// The field of the line that begins at start, in one pass: neither a colon nor a CR is a byte of a name, nor a CR one of a value, so that
+// the runs of such bytes end where the name and the line do.
 fn field_at(kinds: &[u8; 256], head: &[u8], start: usize) -> FieldPlace
     requires { ⌜ (now kinds ≡ table) × (start ≤ length (now head)) ⌝ }
     ensures { λ r. ⌜ r ≡ placeOf isName (now (head .entry)) start ⌝ }
