@@ -23,7 +23,7 @@ pub enum FieldLine {
     Malformed,
 }
 
-// The field of a line, which is given without its end; the bytes of its name are of the kind.
+// Where the field of a line stands in it, which is given without its end; the bytes of the field's name are of the kind.
 pub fn field_line(kinds: &[u8; 256], kind: Kind, line: &[u8]) -> FieldLine
     requires { ⌜ now kinds ≡ table ⌝ }
     ensures { λ r. ⌜ lineOption r ≡ numbersOf (rule kind) (now (line .entry)) ⌝ }
