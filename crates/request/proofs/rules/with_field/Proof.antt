@@ -15,7 +15,7 @@ has-name :
     (c : tie.After-same-letters)
     → (let a = c .before .before .before .before .before .args in
     sameLetters (fieldAt (a .head .now) (a .places .now) (a .k) .name) (a .name .now) ≡ c .same-letters .result)
-has-name c = sym (c .same-letters .ensures ∙ rw (c .before .field-name .ensures))
+has-name c = sym (c .same-letters .ensures ∙ rw (c .before .field-name .ensures .0))
 
 field-name-requires : tie.Need-field-name-requires
 field-name-requires c κs = search needs
