@@ -9,10 +9,12 @@ use native.Mathlib.Nat.{add-assoc}
 use native.Mathlib.Omega.{arith}
 use lib.ListN.{length, drop}
 use lib.Seq.{drop-drop, drop-append-add}
+use Rattle.octets.specs.Outcome.{gives}
 use Rattle.octets.specs.Lists.{All, no-more, _&_, NoNul}
 use Rattle.octets.specs.Parts.{parted}
+use Rattle.octets.proofs.Outcomes.{given-gives}
 use Rattle.octets.proofs.Parting.{part-ended, joinedBy, parts-of}
-use Rattle.headers.specs.Block.{Header, printed, with, paired, headersOf, Proper}
+use Rattle.headers.specs.Block.{Header, printed, with, paired, headersOf, parsed, Proper}
 
 pub same-header : (h h′ : Header) → h .name ≡ h′ .name → h .value ≡ h′ .value → h ≡ h′
 same-header h h′ n v =
@@ -58,6 +60,12 @@ printed-read s hs e =
     let p = parts-of 0 s in
     let r = print-paired (parted 0 s .first) (parted 0 s .others) hs (p .in-first) (p .in-others) e in
     record { bytes = r .bytes ∙ p .from; proper = r .proper }
+
+pub parsed-printed : (hs : List Header) → All Proper hs → parsed (printed hs) ≡ gives hs
+parsed-printed hs p = rw (read-printed hs p)
+
+pub printed-parsed : (s : List ℕ) (hs : List Header) → parsed s ≡ gives hs → printed hs ≡ s
+printed-parsed s hs e = printed-read s hs (given-gives (headersOf s) 5 hs e) .bytes
 
 -- What stands behind a header's name and behind the header, where the headers are printed from i on.
 

@@ -1,7 +1,10 @@
 -- Each claim of specs/Claims.antt, proved.
 -- Assumes nothing.
-use Rattle.headers.specs.Claims.{LookupFindsValue, WellFormedHeaded, HeadersFew, HeadersProper, PlacesInside, NumbersHold}
+use Rattle.headers.specs.Claims.{LookupFindsValue, WellFormedHeaded, HeadersFew, HeadersProper, PrintedParsed, HeaderParses, NamesHeld, PlacesInside, NumbersHold}
+use Rattle.headers.proofs.Blocks as Blocks
+use Rattle.headers.proofs.Walks as Walks
 use Rattle.headers.proofs.Lookups as Lookups
+use Rattle.headers.proofs.NamePlaces as NamePlaces
 use Rattle.headers.proofs.Numbers as Numbers
 
 pub lookup-finds-value : LookupFindsValue
@@ -15,6 +18,15 @@ headers-few = Lookups.headers-few
 
 pub headers-proper : HeadersProper
 headers-proper = Lookups.headers-proper
+
+pub printed-parsed : PrintedParsed
+printed-parsed = record { back = Blocks.parsed-printed; bytes = Blocks.printed-parsed }
+
+pub header-parses : HeaderParses
+header-parses = Walks.header-parses
+
+pub names-held : NamesHeld
+names-held = NamePlaces.names-held
 
 pub places-inside : PlacesInside
 places-inside = record { of-one = Lookups.place-fits; of-first = Lookups.first-fits; of-second = Lookups.second-fits }

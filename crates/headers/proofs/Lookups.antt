@@ -15,26 +15,21 @@ use Rattle.octets.specs.Lists.{All, _&_, isNil}
 use Rattle.octets.proofs.Outcomes.{then-gives, given-gives}
 use Rattle.headers.specs.Block.{Header, printed, headersOf, parsed, isSome, wellFormed, countOf, headerIn, HeaderFound, Proper}
 use Rattle.headers.specs.Lookup.{Part, partOption, placeIn, valueIn, lookupOf}
-use Rattle.headers.specs.Claims.{LookupFindsValue, WellFormedHeaded, HeadersFew, HeadersProper}
+use Rattle.headers.specs.Claims.{Headed, LookupFindsValue, WellFormedHeaded, HeadersFew, HeadersProper}
 use Rattle.headers.specs.Setting.{in-first, in-second, firstOf, settingOf}
-use Rattle.headers.specs.declared.block.HeaderPlace.the-variants.{At}
 use Rattle.headers.proofs.Blocks.{printed-read, behind-name, behind-printed}
 use Rattle.headers.proofs.Walks.{behind-header, none-behind, counted}
 
 -- Well formed blocks.
 
-pub record Parsed (b : List ℕ) : Type 0 where
-  pub hs : List Header
-  pub is : parsed b ≡ gives hs
-
-pub well : (b : List ℕ) → wellFormed b ≡ true → Parsed b
+well : (b : List ℕ) → wellFormed b ≡ true → Headed b
 well b e = by (headersOf b) refl e
   where
-    by : (o : Option (List Header)) → headersOf b ≡ o → isSome o ≡ true → Parsed b
+    by : (o : Option (List Header)) → headersOf b ≡ o → isSome o ≡ true → Headed b
     by none p t = absurd (false≢true t)
     by (some hs) p t = record { hs = hs; is = rw p }
 
-pub well-parsed : (b : List ℕ) (hs : List Header) → parsed b ≡ gives hs → wellFormed b ≡ true
+well-parsed : (b : List ℕ) (hs : List Header) → parsed b ≡ gives hs → wellFormed b ≡ true
 well-parsed b hs e = by (headersOf b) e
   where
     by : (o : Option (List Header)) → given o 5 ≡ gives hs → isSome o ≡ true
@@ -47,7 +42,7 @@ well-counted b n e =
     well-parsed b (g .hs) (g .is)
 
 pub well-formed-headed : WellFormedHeaded
-well-formed-headed b = (λ w. let p = well b w in record { hs = p .hs; is = p .is }, λ p. well-parsed b (p .hs) (p .is))
+well-formed-headed b = (well b, λ p. well-parsed b (p .hs) (p .is))
 
 -- a header takes three bytes or more
 named-length : (n : List ℕ) → isNil n ≡ false → 0 < length n
@@ -88,14 +83,6 @@ start b name e =
     let p = well b e in
     record { hs = p .hs; rest = p .is; answer = rw (p .is) }
 
-pub found-or-absent : (b name : List ℕ) (n : ℕ) → wellFormed b ≡ true → lookupOf b name ≡ refused n → ⊥
-unfolding lookupOf
-found-or-absent b name n w e =
-    let p = well b w in
-    let q : gives (placeIn name 0 (p .hs)) ≡ refused n = rw (p .is) at e in
-    let z : _≡_ {A = ℕ} 0 1 = cc in
-    omega arith
-
 -- one header: its name ends at n and its value at v
 pub record Turn (b name : List ℕ) (i n v : ℕ) : Type 0 where
   pub hit : sameBytes (take (n - i) (drop i b)) name ≡ true → lookupOf b name ≡ gives (some (record { start = n + 1; len = v - (n + 1) }))
@@ -117,7 +104,7 @@ module _ (b name : List ℕ) (i n v : ℕ) where
       }
 
 module _ {b name : List ℕ} {i : ℕ} (r : Standing b name i) where
-  pub turn : (n v : ℕ) → HeaderFound b i (At n v) → Turn b name i n v
+  pub turn : (n v : ℕ) → HeaderFound b i (gives (record { nameEnd = n; valueEnd = v })) → Turn b name i n v
   turn n v h =
       let g = behind-header b i (r .hs) (r .rest) n v h in
       turn-at b name i n v (g .gs) (h .order) (g .rest) (r .answer ∙ ap (λ (hs : List Header). gives (placeIn name i hs)) (g .is))

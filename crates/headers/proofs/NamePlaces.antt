@@ -1,27 +1,25 @@
 -- Laws of names found by stored numbers.
 -- Assumes nothing.
-use Prim.Native.Nat.{ℕ, suc, _+_, _-_, _*_, _≤_, _<_}
+use Prim.Native.Nat.{ℕ, suc, _+_, _-_, _*_, _/_, _≤_, _<_}
 use Prim.{absurd}
 use mathlib.Core.Path.{_≡_, refl, sym, ap, _∙_}
-use mathlib.Core.Bool.{Bool, true, false, not, _&&_, _||_}
+use mathlib.Core.Bool.{Bool, true, false, cond, not, _&&_, _||_}
 use mathlib.Core.List.{List, [], _∷_, _++_}
 use native.Mathlib.Nat.{zero-add, add-zero, sub-zero}
 use native.Mathlib.Omega.{arith}
-use lib.Dec.{eqb}
+use lib.Dec.{eqb, ltb}
 use lib.ListN.{length, take, drop, getD, set, length-append, length-drop, length-set, length-take}
-use lib.Seq.{drop-drop, take-append-seam, getD-drop}
-use borrow.Author.Tests.{eqb-true, eqb-false}
+use lib.Seq.{drop-drop, take-append-seam, take-nil, take-all, getD-drop}
+use borrow.Author.Tests.{eqb-true, eqb-false, ltb-true, ltb-false}
 use Rattle.octets.specs.Outcome.{Outcome, refused, gives, then}
 use Rattle.octets.specs.Compare.{sameBytes}
 use Rattle.octets.specs.Lists.{isIn, different}
 use Rattle.octets.specs.Copy.{over}
-use Rattle.octets.proofs.Outcomes.{given-gives, gives-once, then-gives, then-same}
+use Rattle.octets.proofs.Outcomes.{given-gives, gives-once, then-same}
 use Rattle.octets.proofs.Copies.{over-nil, two-stored}
 use Rattle.headers.specs.Block.{Header, names, printed, headersOf, parsed, countOf, headerIn, HeaderFound}
-use Rattle.headers.specs.Names.{namePlaces, NamesStored, NamesIn, FoundBy, NamesFound, nameAt, namesAt, Inside, AllInside}
-use Rattle.headers.specs.declared.block.HeaderPlace.the-variants.{At, Refused}
-use Rattle.headers.specs.declared.names.Stored.{Stored}
-use Rattle.headers.specs.declared.names.Stored.the-variants.{Headers, Full, Refused as StoredRefused}
+use Rattle.headers.specs.Names.{namePlaces, withPair, NamesIn, nameAt, namesAt, Inside, AllInside}
+use Rattle.headers.specs.Claims.{NamesHeld}
 use Rattle.headers.proofs.Blocks.{printed-read, behind-printed}
 use Rattle.headers.proofs.Walks.{no-header, past-header, counted}
 
@@ -32,78 +30,106 @@ unfolding namePlaces
 places-length [] i = refl
 places-length (h ∷ hs) i = omega (arith, places-length hs (i + length (h .name) + 1 + length (h .value) + 1))
 
+-- as many of the numbers as fit behind the first n pairs of a list d
+abbrev pub fitting : List ℕ → ℕ → List ℕ → List ℕ
+fitting d n ps = take (2 * ((length d - 2 * n) / 2)) ps
+
 pub record Storing (b before out : List ℕ) (i n : ℕ) : Type 0 where
-  pub fits : 2 * n ≤ length out
+  pub few : n ≤ i
+  pub size : length out ≡ length before
   pub count : countOf b ≡ then (parsed (drop i b)) (λ hs. gives (n + length hs))
   pub stored :
-      (all hs : List Header) → parsed b ≡ gives all → parsed (drop i b) ≡ gives hs → 2 * n + 2 * length hs ≤ length out
-      → over out (2 * n) (namePlaces i hs) ≡ over before 0 (namePlaces 0 all)
+      (all hs : List Header) → parsed b ≡ gives all → parsed (drop i b) ≡ gives hs
+      → over out (2 * n) (fitting out n (namePlaces i hs)) ≡ over before 0 (take (2 * (length before / 2)) (namePlaces 0 all))
 
 pub start : (b d : List ℕ) → Storing b d d 0 0
 start b d =
     record {
-      fits = omega arith;
+      few = omega arith;
+      size = refl;
       count = then-same (parsed b) _ _ (λ hs. ap gives (sym (zero-add (length hs))));
-      stored = λ all hs p q r. ap (λ (x : List Header). over d 0 (namePlaces 0 x)) (gives-once hs all (sym q ∙ p));
+      stored =
+          λ all hs p q.
+          ap (λ (x : List Header). over d 0 (fitting d 0 (namePlaces 0 x))) (gives-once hs all (sym q ∙ p))
+          ∙ ap (λ (k : ℕ). over d 0 (take (2 * (k / 2)) (namePlaces 0 all))) (sub-zero (length d));
     }
 
--- one header more
-module _ (b out : List ℕ) (i k n v : ℕ) where
-  turn-at :
-      (gs : List Header) → (i < n) × (n < v) × (v < length b) → k + 2 + 2 * length gs ≤ length out
-      → over (set (set out k i) (k + 1) (n - i)) (k + 2) (namePlaces (v + 1) gs) ≡ over out k (namePlaces i (headerIn b i n v ∷ gs))
-  unfolding namePlaces
-  turn-at gs o room =
-      let l : length (take (n - i) (drop i b)) ≡ n - i = simp (length-take, length-drop) (omega arith) in
-      let m : length (take (v - (n + 1)) (drop (n + 1) b)) ≡ v - (n + 1) = simp (length-take, length-drop) (omega arith) in
-      let e : i + (n - i) + 1 + (v - (n + 1)) + 1 ≡ v + 1 = omega arith in
-      two-stored out k i (n - i) (namePlaces (v + 1) gs) (omega (arith, places-length gs (v + 1))) ∙ sym (rw (l, m, e))
+-- one pair more, whether it fits or not
+module _ (d : List ℕ) (n x y : ℕ) where
+  pub pair-size : length (withPair d n x y) ≡ length d
+  pair-size = by (ltb n (length d / 2))
+    where
+      by : (t : Bool) → length (cond t (set (set d (2 * n) x) (2 * n + 1) y) d) ≡ length d
+      by true = simp length-set
+      by false = refl
 
--- a header is left where bytes are
-some-left : (b : List ℕ) (i : ℕ) (hs : List Header) → parsed (drop i b) ≡ gives hs → i < length b → 0 < length hs
-unfolding printed
-some-left b i [] e h =
-    let p : [] ≡ drop i b = printed-read (drop i b) [] (given-gives (headersOf (drop i b)) 5 [] e) .bytes in
-    let l : 0 ≡ length b - i = ap length p ∙ length-drop i b in
-    absurd (omega arith)
-some-left b i (h ∷ hs) e l = omega arith
+  pair-stored :
+      (ps : List ℕ)
+      → over (withPair d n x y) (2 * (n + 1)) (fitting d (n + 1) ps) ≡ over d (2 * n) (fitting d n (x ∷ (y ∷ ps)))
+  pair-stored ps = by (ltb n (length d / 2)) refl
+    where
+      by :
+          (t : Bool) → ltb n (length d / 2) ≡ t
+          → over (cond t (set (set d (2 * n) x) (2 * n + 1) y) d) (2 * (n + 1)) (fitting d (n + 1) ps) ≡ over d (2 * n) (fitting d n (x ∷ (y ∷ ps)))
+      by true e =
+          let l : n < length d / 2 = ltb-true n (length d / 2) e in
+          let z : 2 * ((length d - 2 * n) / 2) ≡ suc (suc (2 * ((length d - 2 * (n + 1)) / 2))) = omega arith in
+          let w : 2 * (n + 1) ≡ 2 * n + 2 = omega arith in
+          rw (z, w) (two-stored d (2 * n) x y (take (2 * ((length d - (2 * n + 2)) / 2)) ps) (simp length-take (omega arith)))
+      by false e =
+          let l : length d / 2 ≤ n = ltb-false n (length d / 2) e in
+          let z : 2 * ((length d - 2 * n) / 2) ≡ 0 = omega arith in
+          let w : 2 * ((length d - 2 * (n + 1)) / 2) ≡ 0 = omega arith in
+          rw (z, w) (over-nil d (2 * (n + 1)) ∙ sym (over-nil d (2 * n)))
+
+-- the numbers of a header that was found, before those of the ones behind it
+header-places :
+    (b : List ℕ) (i n v : ℕ) (gs : List Header) → (i < n) × (n < v) × (v < length b)
+    → namePlaces i (headerIn b i n v ∷ gs) ≡ i ∷ ((n - i) ∷ namePlaces (v + 1) gs)
+unfolding namePlaces
+header-places b i n v gs o =
+    let l : length (take (n - i) (drop i b)) ≡ n - i = simp (length-take, length-drop) (omega arith) in
+    let m : length (take (v - (n + 1)) (drop (n + 1) b)) ≡ v - (n + 1) = simp (length-take, length-drop) (omega arith) in
+    let e : i + (n - i) + 1 + (v - (n + 1)) + 1 ≡ v + 1 = omega arith in
+    rw (l, m, e)
 
 module _ {b before out : List ℕ} {i n : ℕ} (s : Storing b before out i n) where
   pub more :
-      (e v : ℕ) → HeaderFound b i (At e v) → 2 * n + 2 ≤ length out
-      → Storing b before (set (set out (2 * n) i) (2 * n + 1) (e - i)) (v + 1) (n + 1)
-  more e v h room =
-      let z : 2 * (n + 1) ≡ 2 * n + 2 = omega arith in
-      record {
-        fits = simp length-set (omega arith);
+      (e v : ℕ) (d : List ℕ) → HeaderFound b i (gives (record { nameEnd = e; valueEnd = v })) → d ≡ withPair out n i (e - i)
+      → Storing b before d (v + 1) (n + 1)
+  more e v d h w =
+      rw w
+      (record {
+        few = omega (arith, s .few, h .order);
+        size = pair-size out n i (e - i) ∙ s .size;
         count = s .count ∙ past-header b i e v _ h ∙ then-same (parsed (drop (v + 1) b)) _ _ (λ hs. ap gives (omega arith));
         stored =
-            λ all gs p q r.
-            let l : 2 * (n + 1) + 2 * length gs ≤ length out = simp length-set at r in
-            let w : parsed (drop i b) ≡ gives (headerIn b i e v ∷ gs) =
+            λ all gs p q.
+            let t : parsed (drop i b) ≡ gives (headerIn b i e v ∷ gs) =
             sym (h .answer) ∙ ap (λ (o : Outcome (List Header)). then o (λ hs. gives (headerIn b i e v ∷ hs))) q in
-            ap (λ (x : ℕ). over (set (set out (2 * n) i) (2 * n + 1) (e - i)) x (namePlaces (v + 1) gs)) z
-            ∙ turn-at b out i (2 * n) e v gs (h .order) (omega arith)
-            ∙ s .stored all (headerIn b i e v ∷ gs) p w (omega arith);
-      }
+            ap (λ (k : ℕ). over (withPair out n i (e - i)) (2 * (n + 1)) (take (2 * ((k - 2 * (n + 1)) / 2)) (namePlaces (v + 1) gs))) (pair-size out n i (e - i))
+            ∙ pair-stored out n i (e - i) (namePlaces (v + 1) gs)
+            ∙ ap (λ (ps : List ℕ). over out (2 * n) (fitting out n ps)) (sym (header-places b i e v gs (h .order)))
+            ∙ s .stored all (headerIn b i e v ∷ gs) p t;
+      })
 
-  pub unheaded : (k : ℕ) → HeaderFound b i (Refused k) → countOf b ≡ refused k
+  pub unheaded : (k : ℕ) → HeaderFound b i (refused k) → countOf b ≡ refused k
   unheaded k h = s .count ∙ ap (λ (o : Outcome (List Header)). then o (λ hs. gives (n + length hs))) (sym (h .answer))
 
-  -- a header more than there is room for, where the block is well formed
-  pub no-room : i < length b → length out < 2 * n + 2 → (m : ℕ) → countOf b ≡ gives m → length out < 2 * m
-  no-room h l m e =
-      let g = then-gives (parsed (drop i b)) (λ hs. gives (n + length hs)) m (sym (s .count) ∙ e) in
-      let z : n + length (g .it) ≡ m = gives-once (n + length (g .it)) m (g .next) in
-      omega (arith, some-left b i (g .it) (g .first) h)
+  -- of a malformed block nothing is said
+  pub none-stored : (k : ℕ) → countOf b ≡ refused k → (hs : List Header) → parsed b ≡ gives hs → out ≡ over before 0 (take (2 * (length before / 2)) (namePlaces 0 hs))
+  none-stored k e hs p =
+      let q : countOf b ≡ gives (length hs) = ap (λ (o : Outcome (List Header)). then o (λ hs. gives (length hs))) p in
+      let r : refused k ≡ gives (length hs) = sym e ∙ q in
+      absurd (let z : _≡_ {A = ℕ} 0 1 = cc in omega arith)
 
   module _ (h : length b ≤ i) where
     pub all-counted : countOf b ≡ gives n
     all-counted = s .count ∙ rw (no-header b i h) (ap gives (add-zero n))
 
-    pub all-stored : NamesStored b before out
+    pub all-stored : (hs : List Header) → parsed b ≡ gives hs → out ≡ over before 0 (take (2 * (length before / 2)) (namePlaces 0 hs))
     unfolding namePlaces
-    all-stored all p = sym (over-nil out (2 * n)) ∙ s .stored all [] p (no-header b i h) (omega (arith, s .fits))
+    all-stored all p = sym (over-nil out (2 * n)) ∙ ap (over out (2 * n)) (sym (take-nil (2 * ((length out - 2 * n) / 2)))) ∙ s .stored all [] p (no-header b i h)
 
 -- Reading back.
 
@@ -224,15 +250,19 @@ known b ps n p =
     }
 
 -- where there is room for the block's n headers
-pub kept-all :
-    (b before ps : List ℕ) (n : ℕ) (r : Stored) → NamesFound b before ps r → countOf b ≡ gives n → 2 * n ≤ length before → NamesIn b ps n
-kept-all b before ps n r f e room = by r (f .answer)
-  where
-    by : (q : Stored) → FoundBy b before ps q → NamesIn b ps n
-    by (Headers m) w =
-        let z : m ≡ n = gives-once m n (sym (w .count) ∙ e) in
-        record { before = before; kept = rw z at w }
-    by Full w = absurd (omega (arith, w n e))
-    by (StoredRefused k) w =
-        let q : refused k ≡ gives n = sym w ∙ e in
-        absurd (let z : _≡_ {A = ℕ} 0 1 = cc in omega arith)
+pub names-held : NamesHeld
+names-held b before ps r n f e room =
+    record {
+      before = before;
+      kept =
+          record {
+            count = e;
+            room = omega (arith, f .size, room);
+            stored =
+                λ hs p.
+                let c : gives (length hs) ≡ gives n = sym (ap (λ (o : Outcome (List Header)). then o (λ hs. gives (length hs))) p) ∙ e in
+                let l : length hs ≡ n = gives-once (length hs) n c in
+                f .stored hs p
+                ∙ ap (over before 0) (take-all (2 * (length before / 2)) (namePlaces 0 hs) (omega (arith, places-length hs 0)));
+          };
+    }

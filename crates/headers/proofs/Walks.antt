@@ -1,20 +1,24 @@
 -- Laws of going through a block from header to header, by the places of its NULs.
 -- Assumes nothing.
-use Prim.Native.Nat.{ℕ, suc, _+_, _-_, _≤_, _<_}
+use Prim.Native.Nat.{ℕ, _+_, _-_, _≤_, _<_}
 use Prim.{absurd}
 use mathlib.Core.Path.{_≡_, refl, sym, ap, _∙_}
+use mathlib.Core.Bool.{Bool, true, false, not, _&&_}
 use mathlib.Core.List.{List, [], _∷_}
 use mathlib.Core.Option.{Option, none, some}
 use native.Mathlib.Omega.{arith}
+use lib.Dec.{eqb, ltb}
 use lib.ListN.{length, take, drop, length-take, length-drop, drop-of-length-le}
 use lib.Seq.{drop-drop}
-use Rattle.octets.specs.Outcome.{Outcome, refused, gives, then, given}
+use borrow.Author.Tests.{eqb-true, eqb-false, ltb-true, ltb-false}
+use Rattle.octets.specs.Outcome.{Outcome, refused, gives, then, need, given}
 use Rattle.octets.specs.Scan.{run, other}
 use Rattle.octets.specs.Parts.{parted, before}
 use Rattle.octets.proofs.Outcomes.{then-then, then-gives}
 use Rattle.octets.proofs.Parting.{part-found, part-none}
-use Rattle.headers.specs.Block.{Header, with, paired, headersOf, parsed, countOf, headerIn, HeaderFound}
-use Rattle.headers.specs.declared.block.HeaderPlace.the-variants.{At, Refused}
+use Rattle.headers.specs.Block.{Header, with, paired, headersOf, parsed, countOf, nulFrom, headerEnds, headerOutcome, headerIn, HeaderFound}
+use Rattle.headers.specs.declared.block.HeaderPlace.{HeaderPlace}
+use Rattle.headers.specs.Claims.{HeaderParses}
 
 -- What a list that is not empty begins with: its first NUL stands at n, t is what follows, whose first NUL stands at v.
 
@@ -98,6 +102,28 @@ module _ (b : List ℕ) (i n : ℕ) (h : i < length b) (en : n ≡ i + run (othe
         → then (parsed (drop (v + 1) b)) (λ hs. gives (headerIn b i n v ∷ hs)) ≡ parsed (drop i b)
     headed v p ev l = sym (ap (λ (o : Option (List Header)). given o 5) (header v p ev l) ∙ with-given (headerIn b i n v) (headersOf (drop (v + 1) b)))
 
+  -- the header by its ends, whichever way the tests went
+  found-by :
+      (v : ℕ) → v ≡ n + 1 + run (other 0) (drop (n + 1) b) → (t u w : Bool) → eqb n i ≡ t → ltb n (length b) ≡ u → ltb v (length b) ≡ w
+      → HeaderFound b i (need (not t && u) 5 (need w 5 (gives (record { nameEnd = n; valueEnd = v }))))
+  found-by v ev true u w et eu ew = record { answer = sym (unnamed (eqb-true n i et)); order = tt }
+  found-by v ev false false w et eu ew = record { answer = sym (unended (ltb-false n (length b) eu)); order = tt }
+  found-by v ev false true false et eu ew = record { answer = sym (unvalued (ltb-true n (length b) eu) v ev (ltb-false v (length b) ew)); order = tt }
+  found-by v ev false true true et eu ew =
+      let p : i < n = omega (arith, en, eqb-false n i et) in
+      record {
+        answer = headed (ltb-true n (length b) eu) v p ev (ltb-true v (length b) ew);
+        order = (p, omega arith, ltb-true v (length b) ew);
+      }
+
+pub header-parses : HeaderParses
+unfolding headerEnds
+header-parses b i h = found-by b i (nulFrom b i) h refl (nulFrom b (nulFrom b i + 1)) refl _ _ _ refl refl refl
+
+-- .. by the code's answer r, which is q
+pub found-at : (b : List ℕ) (i : ℕ) (r q : HeaderPlace) → i < length b → headerOutcome r ≡ headerEnds b i → r ≡ q → HeaderFound b i (headerOutcome q)
+found-at b i r q h e z = rw (sym e ∙ ap headerOutcome z) at (header-parses b i h)
+
 -- no header is left
 pub no-header : (b : List ℕ) (i : ℕ) → length b ≤ i → parsed (drop i b) ≡ gives []
 unfolding parted paired
@@ -105,7 +131,7 @@ no-header b i h = rw (drop-of-length-le b h)
 
 -- what is made of the headers from i on, where the first of them has been found
 pub past-header :
-    {A : Type 0} (b : List ℕ) (i n v : ℕ) (f : List Header → Outcome A) → HeaderFound b i (At n v)
+    {A : Type 0} (b : List ℕ) (i n v : ℕ) (f : List Header → Outcome A) → HeaderFound b i (gives (record { nameEnd = n; valueEnd = v }))
     → then (parsed (drop i b)) f ≡ then (parsed (drop (v + 1) b)) (λ hs. f (headerIn b i n v ∷ hs))
 past-header b i n v f r = rw (← r .answer) (then-then (parsed (drop (v + 1) b)) (λ hs. gives (headerIn b i n v ∷ hs)) f)
 
@@ -116,13 +142,13 @@ pub record Behind (b : List ℕ) (i n v : ℕ) (hs : List Header) : Type 0 where
   pub is : hs ≡ headerIn b i n v ∷ gs
 
 module _ (b : List ℕ) (i : ℕ) (hs : List Header) (r : parsed (drop i b) ≡ gives hs) where
-  pub behind-header : (n v : ℕ) → HeaderFound b i (At n v) → Behind b i n v hs
+  pub behind-header : (n v : ℕ) → HeaderFound b i (gives (record { nameEnd = n; valueEnd = v })) → Behind b i n v hs
   behind-header n v h =
       let g = then-gives (parsed (drop (v + 1) b)) (λ gs. gives (headerIn b i n v ∷ gs)) hs (h .answer ∙ r) in
       let e : gives (headerIn b i n v ∷ g .it) ≡ gives hs = g .next in
       record { gs = g .it; rest = g .first; is = cc }
 
-  pub never-refused : (n : ℕ) → HeaderFound b i (Refused n) → ⊥
+  pub never-refused : (n : ℕ) → HeaderFound b i (refused n) → ⊥
   never-refused n h =
       let e : refused n ≡ gives hs = h .answer ∙ r in
       let z : _≡_ {A = ℕ} 0 1 = cc in

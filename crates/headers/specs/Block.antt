@@ -2,13 +2,15 @@
 -- Assumes nothing.
 use Prim.Native.Nat.{ℕ, _+_, _-_, _<_}
 use mathlib.Core.Path.{_≡_}
-use mathlib.Core.Bool.{Bool, true, false, cond}
+use mathlib.Core.Bool.{Bool, true, false, cond, not, _&&_}
 use mathlib.Core.List.{List, [], _∷_, _++_, map}
 use mathlib.Core.Option.{Option, none, some}
+use lib.Dec.{eqb, ltb}
 use lib.ListN.{length, take, drop}
-use Rattle.octets.specs.Outcome.{Outcome, refused, gives, then, given}
+use Rattle.octets.specs.Outcome.{Outcome, refused, gives, then, need, given}
 use Rattle.octets.specs.Lists.{NoNul, isNil}
 use Rattle.octets.specs.Parts.{parted}
+use Rattle.octets.specs.Scan.{run, other}
 use Rattle.headers.specs.declared.block.HeaderPlace.{HeaderPlace}
 use Rattle.headers.specs.declared.block.HeaderPlace.the-variants.{At, Refused}
 use Rattle.headers.specs.declared.block.Count.{Count}
@@ -67,22 +69,43 @@ wellFormed s = isSome (headersOf s)
 
 -- For code that goes from header to header.
 
--- the header at i of b: its name ends at n, its value, behind a NUL, at v
+-- the place of the first NUL of b from i on, or the end of b where there is none
+abbrev pub nulFrom : List ℕ → ℕ → ℕ
+nulFrom b i = i + run (other 0) (drop i b)
+
+-- where a header's name ends, and where its value, behind the NUL after the name, ends
+pub record Ends : Type 0 where
+  pub nameEnd : ℕ
+  pub valueEnd : ℕ
+
+-- the header at i of b: its name ends at the first NUL, its value at the next. 5 where the name is empty or one of the NULs is missing
+unfoldable pub headerEnds : List ℕ → ℕ → Outcome Ends
+headerEnds b i =
+    need (not (eqb (nulFrom b i) i) && ltb (nulFrom b i) (length b)) 5
+    (need (ltb (nulFrom b (nulFrom b i + 1)) (length b)) 5 (gives (record { nameEnd = nulFrom b i; valueEnd = nulFrom b (nulFrom b i + 1) })))
+
+-- what the code's answer says
+abbrev pub headerOutcome : HeaderPlace → Outcome Ends
+headerOutcome (At n v) = gives (record { nameEnd = n; valueEnd = v })
+headerOutcome (Refused k) = refused k
+
+-- the header at i of b whose name ends at n and whose value at v
 abbrev pub headerIn : List ℕ → ℕ → ℕ → ℕ → Header
 headerIn b i n v = record { name = take (n - i) (drop i b); value = take (v - (n + 1)) (drop (n + 1) b) }
 
--- what the code's answer says of the headers from i on
-abbrev pub headersBy : List ℕ → ℕ → HeaderPlace → Outcome (List Header)
-headersBy b i (At n v) = then (parsed (drop (v + 1) b)) (λ hs. gives (headerIn b i n v ∷ hs))
-headersBy b i (Refused k) = refused k
+-- the headers from i on, by the ends of the first of them
+abbrev pub headersBy : List ℕ → ℕ → Outcome Ends → Outcome (List Header)
+headersBy b i (gives e) = then (parsed (drop (e .valueEnd + 1) b)) (λ hs. gives (headerIn b i (e .nameEnd) (e .valueEnd) ∷ hs))
+headersBy b i (refused k) = refused k
 
-abbrev pub InOrder : List ℕ → ℕ → HeaderPlace → Type 0
-InOrder b i (At n v) = (i < n) × (n < v) × (v < length b)
-InOrder b i (Refused k) = Unit {0}
+abbrev pub InOrder : List ℕ → ℕ → Outcome Ends → Type 0
+InOrder b i (gives e) = (i < e .nameEnd) × (e .nameEnd < e .valueEnd) × (e .valueEnd < length b)
+InOrder b i (refused k) = Unit {0}
 
-pub record HeaderFound (b : List ℕ) (i : ℕ) (r : HeaderPlace) : Type 0 where
-  pub answer : headersBy b i r ≡ parsed (drop i b)
-  pub order : InOrder b i r
+-- .. and where these ends lie
+pub record HeaderFound (b : List ℕ) (i : ℕ) (o : Outcome Ends) : Type 0 where
+  pub answer : headersBy b i o ≡ parsed (drop i b)
+  pub order : InOrder b i o
 
 -- how many headers a block has
 abbrev pub countOf : List ℕ → Outcome ℕ

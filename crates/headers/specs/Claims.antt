@@ -1,6 +1,6 @@
 -- What is claimed of blocks of headers and of looking names up in them.
 -- Assumes nothing.
-use Prim.Native.Nat.{ℕ, _+_, _*_, _≤_}
+use Prim.Native.Nat.{ℕ, _+_, _*_, _≤_, _<_}
 use mathlib.Core.Path.{_≡_}
 use mathlib.Core.Bool.{true}
 use mathlib.Core.Logic.{_↔_}
@@ -9,9 +9,11 @@ use mathlib.Core.Option.{Option, some}
 use lib.ListN.{length}
 use Rattle.octets.specs.Outcome.{refused, gives}
 use Rattle.octets.specs.Lists.{All}
-use Rattle.headers.specs.Block.{Header, Proper, parsed, wellFormed}
+use Rattle.headers.specs.Block.{Header, Proper, printed, parsed, wellFormed, countOf, headerEnds, HeaderFound}
 use Rattle.headers.specs.Lookup.{Part, partOption, valueIn, lookupOf}
 use Rattle.headers.specs.Setting.{in-first, in-second, settingOf}
+use Rattle.headers.specs.Names.{NamesFound, NamesIn}
+use Rattle.headers.specs.declared.block.Count.{Count}
 
 -- "Looking up a name hands back the value as that part of the caller's block": the bytes at the place that is given are the value of the first
 -- header with that name, and there is a place exactly where there is such a header
@@ -36,6 +38,22 @@ HeadersFew = (block : List ℕ) (hs : List Header) → parsed block ≡ gives hs
 -- the headers of a block are those of the grammar, "name ::= notnull+, value ::= notnull*"
 abbrev pub HeadersProper : Type 0
 HeadersProper = (block : List ℕ) (hs : List Header) → parsed block ≡ gives hs → All Proper hs
+
+-- a block is what its headers print, and what headers of the grammar print has just these
+pub record PrintedParsed : Type 0 where
+  pub back : (hs : List Header) → All Proper hs → parsed (printed hs) ≡ gives hs
+  pub bytes : (block : List ℕ) (hs : List Header) → parsed block ≡ gives hs → printed hs ≡ block
+
+-- the header that is found at a place is the first of those which the block has from there on, with the rest behind it; where none is found, the
+-- block from there on is malformed
+abbrev pub HeaderParses : Type 0
+HeaderParses = (block : List ℕ) (i : ℕ) → i < length block → HeaderFound block i (headerEnds block i)
+
+-- a list with room for the names of a block's n headers has them all after they were stored
+abbrev pub NamesHeld : Type 0
+NamesHeld =
+    (block before after : List ℕ) (r : Count) (n : ℕ) → NamesFound block before after r → countOf block ≡ gives n → 2 * n ≤ length before
+    → NamesIn block after n
 
 -- a place that is given lies in its block
 pub record PlacesInside : Type 0 where

@@ -1,21 +1,33 @@
 -- The names of a block by numbers: two for each header, where its name starts and how long it is.
 -- Assumes nothing.
-use Prim.Native.Nat.{ℕ, zero, suc, _+_, _*_, _≤_, _<_}
+use Prim.Native.Nat.{ℕ, zero, suc, _+_, _*_, _/_, _≤_, _<_}
 use mathlib.Core.Path.{_≡_}
+use mathlib.Core.Bool.{cond}
 use mathlib.Core.List.{List, [], _∷_}
-use lib.ListN.{length, take, drop, getD}
-use Rattle.octets.specs.Outcome.{refused, gives}
+use lib.Dec.{ltb}
+use lib.ListN.{length, take, drop, getD, set}
+use Rattle.octets.specs.Outcome.{gives}
 use Rattle.octets.specs.Copy.{over}
-use Rattle.headers.specs.Block.{Header, parsed, countOf}
-use Rattle.headers.specs.declared.names.Stored.{Stored}
-use Rattle.headers.specs.declared.names.Stored.the-variants.{Headers, Full, Refused}
+use Rattle.headers.specs.Block.{Header, parsed, countOf, countOutcome}
+use Rattle.headers.specs.declared.block.Count.{Count}
 
 -- the numbers of headers that are printed from i on
 unfoldable pub namePlaces : ℕ → List Header → List ℕ
 namePlaces i [] = []
 namePlaces i (h ∷ hs) = i ∷ (length (h .name) ∷ namePlaces (i + length (h .name) + 1 + length (h .value) + 1) hs)
 
--- the list after is the list before with the numbers of the block's headers over its front
+-- the list d with the two numbers of the name n in their places, if it has them
+abbrev pub withPair : List ℕ → ℕ → ℕ → ℕ → List ℕ
+withPair d n start len = cond (ltb n (length d / 2)) (set (set d (2 * n) start) (2 * n + 1) len) d
+
+-- the answer is the count of headers, or 5; the list has the numbers of as many as it has room for, over its front. Of a malformed block it may
+-- have any
+pub record NamesFound (b before after : List ℕ) (r : Count) : Type 0 where
+  pub count : countOutcome r ≡ countOf b
+  pub size : length after ≡ length before
+  pub stored : (hs : List Header) → parsed b ≡ gives hs → after ≡ over before 0 (take (2 * (length before / 2)) (namePlaces 0 hs))
+
+-- the list after is the list before with the numbers of all of the block's headers over its front
 abbrev pub NamesStored : List ℕ → List ℕ → List ℕ → Type 0
 NamesStored b before after = (hs : List Header) → parsed b ≡ gives hs → after ≡ over before 0 (namePlaces 0 hs)
 
@@ -29,15 +41,6 @@ pub record NamesKept (b before after : List ℕ) (n : ℕ) : Type 0 where
 pub record NamesIn (b ps : List ℕ) (n : ℕ) : Type 0 where
   pub before : List ℕ
   pub kept : NamesKept b before ps n
-
--- what the code's answer says: a list that is full has less room than the headers of a well formed block take
-abbrev pub FoundBy : List ℕ → List ℕ → List ℕ → Stored → Type 0
-FoundBy b before after (Headers n) = NamesKept b before after n
-FoundBy b before after Full = (n : ℕ) → countOf b ≡ gives n → length before < 2 * n
-FoundBy b before after (Refused k) = countOf b ≡ refused k
-
-pub record NamesFound (b before after : List ℕ) (r : Stored) : Type 0 where
-  pub answer : FoundBy b before after r
 
 -- the name whose numbers stand from 2 * k on
 abbrev pub nameAt : List ℕ → List ℕ → ℕ → List ℕ

@@ -3,7 +3,7 @@ ghost use mathlib.Core.Path.{_≡_};
 ghost use Prim.Native.Nat.{_<_};
 ghost use lib.ListN.{length};
 ghost use Rattle.octets.specs.Outcome.{refusalOf};
-ghost use Rattle.headers.specs.Block.{HeaderFound, countOutcome, countOf};
+ghost use Rattle.headers.specs.Block.{headerOutcome, headerEnds, countOutcome, countOf};
 use octets::scan::find;
 
 pub enum HeaderPlace {
@@ -12,10 +12,25 @@ pub enum HeaderPlace {
     Refused(u8),
 }
 
+impl HeaderPlace {
+    // The number of the refusal.
+    pub fn number(self) -> u8
+        ensures { λ r. ⌜ r ≡ refusalOf (headerOutcome self) ⌝ }
+    {
+        match self {
+            HeaderPlace::At {
+                name_end: _,
+                value_end: _,
+            } => 0,
+            HeaderPlace::Refused(n) => n,
+        }
+    }
+}
+
 // The header that begins at a place.
 pub fn header_at(block: &[u8], at: usize) -> HeaderPlace
     requires { ⌜ at < length (now block) ⌝ }
-    ensures { λ r. ⌜ HeaderFound (now (block .entry)) at r ⌝ }
+    ensures { λ r. ⌜ headerOutcome r ≡ headerEnds (now (block .entry)) at ⌝ }
 {
     let n = find(block, at, 0);
     if n == at {
@@ -64,10 +79,7 @@ pub fn count_headers(block: &[u8]) -> Count
             value_end,
         } = h
         else {
-            let HeaderPlace::Refused(k) = h else {
-                return Count::Refused(0);
-            };
-            return Count::Refused(k);
+            return Count::Refused(h.number());
         };
         n += 1;
         i = value_end + 1;

@@ -8,10 +8,10 @@ use lib.ListN.{length, drop}
 use borrow.Author.Needs.{needs}
 use Rattle.octets.proofs.Outcomes.{then-same}
 use Rattle.octets.specs.Outcome.{gives, then}
-use Rattle.headers.proofs.Walks.{no-header, past-header}
+use Rattle.headers.proofs.Walks.{no-header, past-header, found-at}
 use Rattle.headers.proofs.block.count_headers.Statement.{statement}
 use Rattle.headers.proofs.block.count_headers.Tie as tie
-use Rattle.headers.specs.Block.{parsed, countOf, HeaderFound, headersBy}
+use Rattle.headers.specs.Block.{parsed, countOf, HeaderFound, headerOutcome}
 use Rattle.headers.specs.declared.block.HeaderPlace.the-variants.{At}
 
 abbrev Inv-loop : tie.InvT-loop
@@ -23,8 +23,10 @@ abbrev μ-loop : tie.MeasureT-loop
 -- the header that was found at i
 found :
     (c : tie.After-known-told Inv-loop μ-loop)
-    → HeaderFound (c .before .before .before .before .before .before .before .args .block .now) (c .before .before .before .before .before .loop .i) (At (c .before .h .given .0 .0) (c .before .h .given .0 .1 .0))
-found c = rw (c .before .h .given .1) at (c .before .before .before .header-at .ensures)
+    → HeaderFound (c .before .before .before .before .before .before .before .args .block .now) (c .before .before .before .before .before .loop .i) (headerOutcome (At (c .before .h .given .0 .0) (c .before .h .given .0 .1 .0)))
+found c =
+    let h = c .before .before .before in
+    found-at _ _ _ _ (h .before .loop-test .taken) (h .header-at .ensures) (c .before .h .given .1)
 
 loop-holds : tie.Need-loop-holds Inv-loop μ-loop
 loop-holds c = (search needs, search needs, then-same (parsed (c .before .args .block .now)) _ _ (λ hs. ap gives (sym (zero-add (length hs)))))
@@ -35,23 +37,19 @@ header-at-requires c κs = search needs
 enum-known-h : tie.Need-enum-known-h Inv-loop μ-loop
 enum-known-h c = search needs
 
-enum-known-h-2 : tie.Need-enum-known-h-2 Inv-loop μ-loop
-enum-known-h-2 c = search needs
-
-enum-known-h-3 : tie.Need-enum-known-h-3 Inv-loop μ-loop
-enum-known-h-3 c = search needs
-
 enum-told : tie.Need-enum-told Inv-loop μ-loop
 enum-told c = search needs
 
-returns : tie.Need-returns Inv-loop μ-loop
-returns c = search needs
+number-requires : tie.Need-number-requires Inv-loop μ-loop
+number-requires c κs = search needs
 
-returns-2 : tie.Need-returns-2 Inv-loop μ-loop
-returns-2 c =
-    let h = c .before .before .before .before .before .before in
+returns : tie.Need-returns Inv-loop μ-loop
+returns c =
+    let h = c .before .before .before in
     let l = h .before .before in
-    sym (l .loop .inv .2 ∙ ap (λ o. then o (λ hs. gives (l .loop .n + length hs))) (sym (h .header-at .ensures .answer) ∙ ap (headersBy _ _) (c .before .before .before .before .h2 .given .1 ∙ c .before .h3 .given .1)))
+    let e = c .before .enum-told .given .1 in
+    let f = found-at _ _ _ _ (h .before .loop-test .taken) (h .header-at .ensures) e in
+    rw (c .number .ensures, e) (sym (l .loop .inv .2 ∙ ap (λ o. then o (λ hs. gives (l .loop .n + length hs))) (sym (f .answer))))
 
 add-n : tie.Need-add-n Inv-loop μ-loop
 add-n c = omega (arith, found c .order)
@@ -70,8 +68,8 @@ loop-again c =
       l .loop .inv .2 ∙ past-header _ _ _ _ _ (found c) ∙ then-same (parsed _) _ _ (λ hs. ap gives (omega arith)),
     )
 
-returns-3 : tie.Need-returns-3 Inv-loop μ-loop
-returns-3 c =
+returns-2 : tie.Need-returns-2 Inv-loop μ-loop
+returns-2 c =
     let l = c .before in
     sym (l .loop .inv .2 ∙ rw (no-header _ _ (c .loop-test .left)) (ap gives (add-zero _)))
 
@@ -84,13 +82,11 @@ count-headers-spec =
     loop-holds
     header-at-requires
     enum-known-h
-    enum-known-h-2
-    enum-known-h-3
     enum-told
+    number-requires
     returns
-    returns-2
     add-n
     add-i
     loop-less
     loop-again
-    returns-3)
+    returns-2)

@@ -1,24 +1,21 @@
 -- `headers::block::header_at` meets its contract.
 -- Assumes nothing.
-use mathlib.Core.Path.{sym}
-use native.Mathlib.Omega.{arith}
 use borrow.Author.Needs.{needs}
-use Rattle.headers.proofs.Walks.{unnamed, unended, unvalued, headed}
+use Rattle.octets.proofs.Tests.{tests}
 use Rattle.headers.proofs.block.header_at.Statement.{statement}
 use Rattle.headers.proofs.block.header_at.Tie as tie
+use Rattle.headers.specs.Block.{headerEnds}
 
 find-requires : tie.Need-find-requires
 find-requires c κs = search needs
 
 returns : tie.Need-returns
-returns c =
-    let a = c .before .before .before in
-    record { answer = sym (unnamed (a .args .block .now) (a .args .at) _ (a .pre) (c .before .find .ensures) (c .if1 .taken)); order = tt }
+unfolding headerEnds
+returns c = rw (← c .before .find .ensures) (search tests)
 
 returns-2 : tie.Need-returns-2
-returns-2 c =
-    let a = c .before .before .before .before in
-    record { answer = sym (unended (a .args .block .now) (a .args .at) _ (a .pre) (c .before .before .find .ensures) (c .if2 .taken)); order = tt }
+unfolding headerEnds
+returns-2 c = rw (← c .before .before .find .ensures) (search tests)
 
 add-find : tie.Need-add-find
 add-find c = search needs
@@ -27,23 +24,12 @@ find-requires-2 : tie.Need-find-requires-2
 find-requires-2 c κs = search needs
 
 returns-3 : tie.Need-returns-3
-returns-3 c =
-    let a = c .before .before .before .before .before .before in
-    let f = c .before .before .before .before .find .ensures in
-    record {
-      answer = sym (unvalued (a .args .block .now) (a .args .at) _ (a .pre) f (c .before .before .if2 .left) _ (c .before .find2 .ensures) (c .if3 .taken));
-      order = tt;
-    }
+unfolding headerEnds
+returns-3 c = rw (← c .before .before .before .before .find .ensures) (rw (← c .before .find2 .ensures) (search tests))
 
 returns-4 : tie.Need-returns-4
-returns-4 c =
-    let a = c .before .before .before .before .before .before in
-    let f = c .before .before .before .before .find .ensures in
-    record {
-      answer =
-          headed (a .args .block .now) (a .args .at) _ (a .pre) f (c .before .before .if2 .left) _ (omega (arith, c .before .before .before .if1 .left)) (c .before .find2 .ensures) (c .if3 .left);
-      order = (omega (arith, c .before .before .before .if1 .left), omega arith, c .if3 .left);
-    }
+unfolding headerEnds
+returns-4 c = rw (← c .before .before .before .before .find .ensures) (rw (← c .before .find2 .ensures) (search tests))
 
 pub header-at-spec : {M : Type 1} → statement M
 header-at-spec =

@@ -1,47 +1,36 @@
-use native.Mathlib.Omega.{arith}
+-- `headers::lookup::find` meets its contract.
+-- Assumes nothing.
 use mathlib.Core.Path.{sym, ap, _∙_}
-use Rattle.headers.proofs.Lookups.{well-counted, count-refused}
-use Rattle.headers.specs.Block.{countOutcome}
-use Rattle.headers.specs.Lookup.{lookupOf}
 use borrow.Author.Needs.{needs}
+use Rattle.headers.proofs.Lookups.{well-counted, count-refused}
 use Rattle.headers.proofs.lookup.find.Statement.{statement}
 use Rattle.headers.proofs.lookup.find.Tie as tie
-use Rattle.headers.proofs.lookup.find.Reads as reads
-use Rattle.headers.proofs.lookup.find.Lts as lts
-use Rattle.headers.proofs.block.Count.number.Reads as number-reads
-use Rattle.headers.proofs.block.count_headers.Reads as count-headers-reads
-use Rattle.headers.proofs.lookup.seek.Reads as seek-reads
+use Rattle.headers.specs.Block.{countOutcome}
+use Rattle.headers.specs.Lookup.{lookupOf}
 
--- src/lookup.rt:26:9
 count-headers-requires : tie.Need-count-headers-requires
 count-headers-requires c κs = search needs
 
 enum-told : tie.Need-enum-told
 enum-told c = search needs
 
--- src/lookup.rt:28:31
 enum-told-2 : tie.Need-enum-told-2
 enum-told-2 c = search needs
 
--- src/lookup.rt:28:31
 number-requires : tie.Need-number-requires
 number-requires c κs = search needs
 
--- src/lookup.rt:28:9
 returns : tie.Need-returns
 unfolding lookupOf
 returns c =
-    let k = c .before .before .before in
     let e = c .before .enum-told2 .given .1 in
-    rw (c .number .ensures, e) (sym (count-refused _ _ _ (sym (k .count-headers .ensures) ∙ ap countOutcome e)))
+    rw (c .number .ensures, e) (sym (count-refused _ _ _ (sym (c .before .before .before .count-headers .ensures) ∙ ap countOutcome e)))
 
--- src/lookup.rt:30:5
 seek-requires : tie.Need-seek-requires
 seek-requires c κs = well-counted _ _ (sym (c .before .before .count-headers .ensures) ∙ ap countOutcome (c .enum-told .given .1))
 
--- src/lookup.rt:23:1
 returns-2 : tie.Need-returns-2
-returns-2 c = search needs
+returns-2 c = c .seek .ensures
 
 pub find-spec : {M : Type 1} → statement M
 find-spec =

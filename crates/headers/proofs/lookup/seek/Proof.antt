@@ -4,13 +4,13 @@ use mathlib.Core.Path.{sym, _∙_}
 use Prim.Native.Nat.{_-_, _≤_}
 use Prim.{absurd}
 use native.Mathlib.Omega.{arith}
-use lib.ListN.{length, drop}
+use lib.ListN.{length}
 use borrow.Author.Needs.{needs}
 use Rattle.headers.proofs.Lookups.{Standing, start, Turn, turn, ended}
-use Rattle.headers.proofs.Walks.{never-refused}
+use Rattle.headers.proofs.Walks.{never-refused, found-at}
 use Rattle.headers.proofs.lookup.seek.Statement.{statement}
 use Rattle.headers.proofs.lookup.seek.Tie as tie
-use Rattle.headers.specs.Block.{HeaderFound}
+use Rattle.headers.specs.Block.{HeaderFound, headerOutcome}
 use Rattle.headers.specs.declared.block.HeaderPlace.the-variants.{At}
 
 abbrev Inv-loop : tie.InvT-loop
@@ -22,8 +22,10 @@ abbrev μ-loop : tie.MeasureT-loop
 -- the header that was found at i
 found :
     (c : tie.After-known-told Inv-loop μ-loop)
-    → HeaderFound (c .before .before .before .before .before .before .before .before .args .block .now) (c .before .before .before .before .before .loop .i) (At (c .before .h .given .0 .0) (c .before .h .given .0 .1 .0))
-found c = rw (c .before .h .given .1) at (c .before .before .before .header-at .ensures)
+    → HeaderFound (c .before .before .before .before .before .before .before .before .args .block .now) (c .before .before .before .before .before .loop .i) (headerOutcome (At (c .before .h .given .0 .0) (c .before .h .given .0 .1 .0)))
+found c =
+    let h = c .before .before .before in
+    found-at _ _ _ _ (h .before .loop-test .taken) (h .header-at .ensures) (c .before .h .given .1)
 
 header :
     (c : tie.After-known-told Inv-loop μ-loop)
@@ -41,23 +43,14 @@ header-at-requires c κs = search needs
 enum-known-h : tie.Need-enum-known-h Inv-loop μ-loop
 enum-known-h c = search needs
 
-enum-known-h-2 : tie.Need-enum-known-h-2 Inv-loop μ-loop
-enum-known-h-2 c = search needs
-
-enum-known-h-3 : tie.Need-enum-known-h-3 Inv-loop μ-loop
-enum-known-h-3 c = search needs
-
 enum-told : tie.Need-enum-told Inv-loop μ-loop
 enum-told c = search needs
 
 returns : tie.Need-returns Inv-loop μ-loop
-returns c = search needs
-
-returns-2 : tie.Need-returns-2 Inv-loop μ-loop
-returns-2 c =
-    let h = c .before .before .before .before .before .before in
+returns c =
+    let h = c .before .before in
     let s = h .before .before .loop .inv .1 in
-    absurd (never-refused _ _ (s .hs) (s .rest) _ (rw (c .before .before .before .before .h2 .given .1 ∙ c .before .h3 .given .1) at (h .header-at .ensures)))
+    absurd (never-refused _ _ (s .hs) (s .rest) _ (found-at _ _ _ _ (h .before .loop-test .taken) (h .header-at .ensures) (c .enum-told .given .1)))
 
 sub-same : tie.Need-sub-same Inv-loop μ-loop
 sub-same c = omega (arith, found c .order)
@@ -71,17 +64,17 @@ part-same-end c = omega (arith, found c .order)
 same-requires : tie.Need-same-requires Inv-loop μ-loop
 same-requires c κs = search needs
 
+add-t13 : tie.Need-add-t13 Inv-loop μ-loop
+add-t13 c = omega (arith, found (c .before .before .before) .order)
+
 add-t14 : tie.Need-add-t14 Inv-loop μ-loop
 add-t14 c = omega (arith, found (c .before .before .before) .order)
 
-add-t15 : tie.Need-add-t15 Inv-loop μ-loop
-add-t15 c = omega (arith, found (c .before .before .before) .order)
+sub-t15 : tie.Need-sub-t15 Inv-loop μ-loop
+sub-t15 c = omega (arith, found (c .before .before .before) .order)
 
-sub-t16 : tie.Need-sub-t16 Inv-loop μ-loop
-sub-t16 c = omega (arith, found (c .before .before .before) .order)
-
-returns-3 : tie.Need-returns-3 Inv-loop μ-loop
-returns-3 c = sym (header (c .before .before .before) .hit (sym (c .before .same .ensures) ∙ c .if1 .taken))
+returns-2 : tie.Need-returns-2 Inv-loop μ-loop
+returns-2 c = sym (header (c .before .before .before) .hit (sym (c .before .same .ensures) ∙ c .if1 .taken))
 
 add-i : tie.Need-add-i Inv-loop μ-loop
 add-i c = omega (arith, found (c .before .before .before) .order)
@@ -92,8 +85,8 @@ loop-less c = omega (arith, found (c .before .before .before) .order)
 loop-again : tie.Need-loop-again Inv-loop μ-loop
 loop-again c = (omega (arith, found (c .before .before .before) .order), header (c .before .before .before) .miss (sym (c .before .same .ensures) ∙ c .if1 .left))
 
-returns-4 : tie.Need-returns-4 Inv-loop μ-loop
-returns-4 c = sym (ended (c .before .loop .inv .1) (c .loop-test .left))
+returns-3 : tie.Need-returns-3 Inv-loop μ-loop
+returns-3 c = sym (ended (c .before .loop .inv .1) (c .loop-test .left))
 
 pub seek-spec : {M : Type 1} → statement M
 seek-spec =
@@ -104,20 +97,17 @@ seek-spec =
     loop-holds
     header-at-requires
     enum-known-h
-    enum-known-h-2
-    enum-known-h-3
     enum-told
     returns
-    returns-2
     sub-same
     part-same-start
     part-same-end
     same-requires
+    add-t13
     add-t14
-    add-t15
-    sub-t16
-    returns-3
+    sub-t15
+    returns-2
     add-i
     loop-less
     loop-again
-    returns-4)
+    returns-3)
