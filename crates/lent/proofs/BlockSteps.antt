@@ -2,7 +2,7 @@
 -- Assumes nothing.
 use Prim.Native.Nat.{ℕ, _+_, _-_, _*_, _≤_, _<_}
 use Prim.{absurd}
-use mathlib.Core.Path.{_≡_, refl, sym, ap, _∙_}
+use mathlib.Core.Path.{_≡_, refl, sym, ap, subst, _∙_}
 use mathlib.Core.Bool.{Bool, true, false, cond, _&&_}
 use mathlib.Core.List.{List, [], _∷_, _++_}
 use mathlib.Core.Option.{Option, none, some}
@@ -15,14 +15,18 @@ use Rattle.octets.specs.Lists.{different}
 use Rattle.octets.specs.Parts.{parted}
 use Rattle.octets.proofs.Lists.{part-first, part-last, nil-empty, nil-filled}
 use Rattle.octets.proofs.Outcomes.{Gave, need-gives, given-gives, then-gives}
-use Rattle.headers.specs.Block.{Header, names, headersOf, paired, parsed, wellFormed, countOf, headerIn, HeaderFound}
+use Rattle.headers.specs.Block.{Header, names, headersOf, paired, parsed, wellFormed, countOf, headerIn, headerEnds, headerOutcome, HeaderFound}
 use Rattle.headers.specs.Claims.{Headed}
 use Rattle.headers.specs.Names.{NamesIn}
+use Rattle.headers.specs.declared.block.HeaderPlace.{HeaderPlace}
 use Rattle.headers.specs.declared.block.HeaderPlace.the-variants.{At, Refused}
-use Rattle.headers.proofs.Claims.{well-formed-headed, headers-few}
+use Rattle.headers.proofs.Claims.{well-formed-headed, headers-few, header-parses}
 use Rattle.lent.specs.Mounts.{Mount, placed, mountsAt, begins}
 use Rattle.lent.specs.Lent.{blockOf, ends, isMount, allMounts, mountsOf}
-use Rattle.lent.specs.Blocks.{manyFor, lacksRoom}
+use Rattle.lent.specs.Blocks.{manyFor, lacksRoom, BlockFound, BlockNamed}
+use Rattle.lent.specs.declared.blocks.Named.the-variants.{Headers}
+use Rattle.lent.specs.declared.blocks.Storing.{Storing}
+use Rattle.lent.specs.declared.blocks.Storing.the-variants.{Done}
 
 -- A header that is a mount, by the bytes at the ends of its name and value.
 
@@ -68,6 +72,10 @@ module _ (b : List ℕ) (i n v : ℕ) (o : (i < n) × (n < v) × (v < length b))
       pub is-mount : (n + 1 ≡ v → ⊥) → isMount (headerIn b i n v) ≡ true
       is-mount h = rw (first-is, last-is, nil-filled (headerIn b i n v .value) (omega (arith, value-length)))
 
+-- the header that was found at i
+pub found-at : (b : List ℕ) (i : ℕ) (p q : HeaderPlace) → i < length b → headerOutcome p ≡ headerEnds b i → p ≡ q → HeaderFound b i (headerOutcome q)
+found-at b i p q h e z = rw (sym e ∙ ap headerOutcome z) at (header-parses b i h)
+
 -- Going from mount to mount: those before i are mounts.
 
 abbrev pub mountsIn : List ℕ → Outcome Bool
@@ -89,7 +97,7 @@ pub record Step (b : List ℕ) (h : Header) (v : ℕ) : Type 0 where
   pub bad : isMount h ≡ false → mountsIn b ≡ gives false
 
 module _ {b : List ℕ} {i : ℕ} (w : Walk b i) where
-  pub step : (n v : ℕ) → HeaderFound b i (At n v) → Step b (headerIn b i n v) v
+  pub step : (n v : ℕ) → HeaderFound b i (headerOutcome (At n v)) → Step b (headerIn b i n v) v
   unfolding allMounts
   step n v h =
       let g = then-gives (parsed (drop (v + 1) b)) (λ gs. gives (headerIn b i n v ∷ gs)) (w .ms) (h .answer ∙ w .rest) in
@@ -101,7 +109,7 @@ module _ {b : List ℕ} {i : ℕ} (w : Walk b i) where
         bad = λ t. a ∙ rw t;
       }
 
-  pub always-header : (k : ℕ) → HeaderFound b i (Refused k) → ⊥
+  pub always-header : (k : ℕ) → HeaderFound b i (headerOutcome (Refused k)) → ⊥
   always-header k h =
       let e : refused k ≡ gives (w .ms) = h .answer ∙ w .rest in
       let z : _≡_ {A = ℕ} 0 1 = cc in
@@ -236,6 +244,13 @@ module _ (b : List ℕ) (room : ℕ) where
   is-good n e =
       let g = then-gives (blockOf 1024 b) (λ hs. gives (length hs)) n (has-room (gives n) e .1) in
       block-gives 1024 b (g .it) (g .first) ∙ sym (g .first)
+
+-- what is found, by the answer
+pub said : {b before after : List ℕ} {r q : Storing} → BlockFound b before after r → r ≡ q → BlockFound b before after q
+said {b} {before} {after} f e = subst (BlockFound b before after) e f
+
+pub named : {b before after : List ℕ} {n : ℕ} → BlockFound b before after (Done (Headers n)) → BlockNamed b after n
+named {b} {before} {after} {n} f = record { good = is-good b (length before) n (f .answer); stored = f .stored }
 
 -- room for two numbers for each header of a block of 1,024 bytes is room enough
 pub never-full : (b : List ℕ) (room : ℕ) → 682 ≤ room → lacksRoom room b ≡ false

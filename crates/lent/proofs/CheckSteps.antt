@@ -1,9 +1,9 @@
 -- Laws of the check of what is lent, step by step, and of its answers.
 -- Assumes nothing.
-use Prim.Native.Nat.{ℕ}
+use Prim.Native.Nat.{ℕ, _≤_}
 use Prim.{absurd}
 use mathlib.Core.Path.{_≡_, refl, sym, ap, _∙_}
-use mathlib.Core.Bool.{Bool, true, false, not}
+use mathlib.Core.Bool.{Bool, true, false, false≢true, not}
 use mathlib.Core.List.{List}
 use mathlib.Core.Option.{Option, none, some}
 use native.Mathlib.Omega.{arith}
@@ -12,6 +12,7 @@ use lib.ListN.{length}
 use Rattle.octets.specs.Text.{bytes}
 use Rattle.octets.specs.Outcome.{Outcome, refused, gives, then, need, given}
 use Rattle.octets.specs.Lists.{isNil, different}
+use Rattle.octets.proofs.Bools.{and-false}
 use Rattle.octets.proofs.Outcomes.{need-gives, given-gives, then-gives}
 use Rattle.headers.specs.Block.{Header, names, headersOf, parsed}
 use Rattle.headers.specs.Lookup.{valueIn}
@@ -20,8 +21,11 @@ use Rattle.lent.specs.Settings.{filled, orIn, sought, isPort, portIn, au
 use Rattle.lent.specs.Lent.{Lent, blockOf, allMounts, mountsOf, lentOf}
 use Rattle.lent.specs.Mounts.{placed, mountsAt}
 use Rattle.lent.specs.Places.{settingsAt, FactInside, AuthInside, SettingsInside, factPart, FactHeld, AuthHeld, SettingsHeld, SettingsFound}
-use Rattle.lent.specs.Check.{LentFound}
+use Rattle.lent.specs.Blocks.{lacksRoom}
+use Rattle.lent.specs.Check.{LentFound, isGood, lacksEither, LentTried}
 use Rattle.lent.specs.Claims.{LentNumber, LentMounts, Accepted, PlacesAreLent}
+use Rattle.lent.specs.declared.check.Checked.{Checked}
+use Rattle.lent.specs.declared.check.Tried.the-variants.{Done, Full}
 use Rattle.lent.specs.declared.check.Checked.the-variants.{Lent as CheckedLent, Refused}
 use Rattle.lent.specs.declared.places.FactPlace.{FactPlace}
 use Rattle.lent.specs.declared.places.AuthPlaces.{AuthPlaces}
@@ -29,7 +33,7 @@ use Rattle.lent.specs.declared.places.AuthPlaces.the-variants.{Given, Ab
 use Rattle.lent.specs.declared.places.SettingPlaces.{SettingPlaces}
 use Rattle.lent.specs.declared.settings.Settings.the-variants.{At as SettingsAt, Breach as SettingsBreach}
 use Rattle.headers.proofs.Claims.{places-inside}
-use Rattle.lent.proofs.BlockSteps.{block-gives, block-headed, mounts-headed}
+use Rattle.lent.proofs.BlockSteps.{block-gives, block-headed, mounts-headed, stored, is-full, has-room, is-breach, is-good, never-full}
 use Rattle.lent.proofs.SettingSteps.{value-inside}
 
 module _ (facts site mounts : List ℕ) where
@@ -60,9 +64,9 @@ module _ (facts site mounts : List ℕ) where
         -- what is left of the chain
         left :
             lentOf facts site mounts
-            ≡ then (settingsOf (facts-are .hs) (site-is .hs)) (λ s. gives (record { settings = s; mounts = mounts-are .hs }))
+            ≡ then (settingsOf (facts-are .hs) (site-is .hs)) (λ s. gives (record { settings = s; mounts = placed 0 (mounts-are .hs) }))
         unfolding lentOf
-        left = rw (sym f ∙ facts-are .is, sym g ∙ site-is .is, sym h ∙ mounts-are .is)
+        left = rw (sym f ∙ facts-are .is, sym g ∙ site-is .is, ← h, mounts-are .is)
 
         pub wrong-settings : SettingsFound facts site SettingsBreach → LentFound facts site mounts (Refused 20)
         wrong-settings s =
@@ -73,6 +77,39 @@ module _ (facts site mounts : List ℕ) where
         all-lent p s =
             let e : gives (settingsAt facts site p) ≡ settingsOf (facts-are .hs) (site-is .hs) = rw (facts-are .is, site-is .is) at (s .answer) in
             record { answer = rw (mounts-are .is) (sym (left ∙ rw (← e))); places = s .places }
+
+-- With lists for the places of names.
+
+module _ (n m : ℕ) (facts site mounts : List ℕ) where
+  pub facts-full : none ≡ stored facts n → LentTried n m facts site mounts Full
+  facts-full e = record { answer = rw (is-full facts n e) }
+
+  pub facts-wrong : some (refused 20) ≡ stored facts n → LentTried n m facts site mounts (Done (Refused 20))
+  facts-wrong e =
+      let b = is-breach facts n e in
+      record { answer = (rw (has-room facts n (refused 20) e .0, b), wrong-facts facts site mounts b) }
+
+  module _ (k : ℕ) (e : some (gives k) ≡ stored facts n) where
+    good : parsed facts ≡ blockOf 1024 facts
+    good = is-good facts n k e
+
+    by-site : lacksEither n m facts site ≡ lacksRoom m site
+    by-site = rw (has-room facts n (gives k) e .0, ← good, block-headed 1024 facts good .is)
+
+    pub site-full : none ≡ stored site m → LentTried n m facts site mounts Full
+    site-full f = record { answer = by-site ∙ is-full site m f }
+
+    pub site-wrong : some (refused 20) ≡ stored site m → LentTried n m facts site mounts (Done (Refused 20))
+    site-wrong f = record { answer = (by-site ∙ has-room site m (refused 20) f .0, wrong-site facts site mounts good (is-breach site m f)) }
+
+    pub all-tried : (j : ℕ) → some (gives j) ≡ stored site m → (r : Checked) → LentFound facts site mounts r → LentTried n m facts site mounts (Done r)
+    all-tried j f r l = record { answer = (by-site ∙ has-room site m (gives j) f .0, l) }
+
+-- lists with room for 341 headers are never full
+pub always-room : (n m : ℕ) (facts site mounts : List ℕ) → LentTried n m facts site mounts Full → 682 ≤ n → 682 ≤ m → ⊥
+always-room n m facts site mounts f h g =
+    let e : lacksEither n m facts site ≡ false = rw (never-full facts n h, never-full site m g) (and-false (isGood (blockOf 1024 facts))) in
+    false≢true (sym e ∙ f .answer)
 
 -- Of the answers.
 
@@ -108,7 +145,7 @@ only-block limit b =
 only-mounts : (b : List ℕ) → Only20 (mountsOf b)
 only-mounts b =
     only-then (blockOf 4096 b) _ (only-block 4096 b)
-    (λ ms. only-need (leb (length ms) 32) _ (only-need (allMounts ms) (gives ms) (only-gives ms)))
+    (λ ms. only-need (leb (length ms) 32) _ (only-need (allMounts ms) (gives (placed 0 ms)) (only-gives (placed 0 ms))))
 
 only-filled : (v : Option (List ℕ)) → Only20 (filled v)
 only-filled v = only-then (given v 20) _ (only-given v) (λ w. only-need (not (isNil w)) (gives w) (only-gives w))

@@ -9,9 +9,9 @@ use lib.ListN.{length, take, drop, length-append, length-drop}
 use lib.Seq.{drop-drop, drop-append-add, take-append-seam}
 use Rattle.octets.specs.Outcome.{gives}
 use Rattle.octets.specs.Lists.{All, no-more, _&_}
-use Rattle.octets.proofs.Outcomes.{given-gives, gives-once, then-gives}
-use Rattle.headers.specs.Block.{Header, printed, headersOf, parsed}
-use Rattle.headers.proofs.Blocks.{printed-read}
+use Rattle.octets.proofs.Outcomes.{gives-once, then-gives}
+use Rattle.headers.specs.Block.{Header, printed, parsed}
+use Rattle.headers.proofs.Claims.{printed-parsed}
 use Rattle.lent.specs.Mounts.{Mount, placed, mountsAt}
 use Rattle.lent.specs.Claims.{headerAt, PoolsAreValues}
 
@@ -42,7 +42,7 @@ module _ (b : List ℕ) where
       & inside-at (i + length (h .name) + 1 + length (h .value) + 1) hs (behind (i + length (h .name) + 1) (h .value) (printed hs) n)
 
 printed-there : (block : List ℕ) (hs : List Header) → parsed block ≡ gives hs → block ≡ printed hs
-printed-there block hs e = sym (printed-read block hs (given-gives (headersOf block) 5 hs e) .bytes)
+printed-there block hs e = sym (printed-parsed .bytes block hs e)
 
 pub pools-are-values : PoolsAreValues
 pools-are-values =

@@ -11,7 +11,8 @@ use Rattle.octets.specs.Outcome.{Outcome, gives, then, given}
 use Rattle.octets.specs.Compare.{sameBytes}
 use Rattle.octets.proofs.Compares.{same-true}
 use Rattle.headers.specs.Block.{Header, parsed, wellFormed}
-use Rattle.headers.specs.Lookup.{Part, placeIn, lookupOf}
+use Rattle.headers.specs.Lookup.{Part, placeIn, placeOption, lookupOf}
+use Rattle.headers.specs.declared.lookup.Place.{Place}
 use Rattle.headers.specs.Claims.{Headed}
 use Rattle.headers.proofs.Claims.{well-formed-headed}
 use Rattle.lent.specs.Mounts.{Mount, placed, mountsAt, shortened, mountNamed, tried}
@@ -22,6 +23,10 @@ use Rattle.lent.proofs.Mounts.{shortened-shorter, tried-here, tried-las
 -- the path without its last segment is a front of the path
 pub front-shorter : (path : List ℕ) (k : ℕ) → shortened path ≡ some (take k path) → k < length path
 front-shorter path k e = omega (arith, length-take k path, shortened-shorter path (take k path) e)
+
+-- what a lookup says, by the answer
+pub looked-up : (block name : List ℕ) (p q : Place) → gives (placeOption p) ≡ lookupOf block name → p ≡ q → lookupOf block name ≡ gives (placeOption q)
+looked-up block name p q e z = sym e ∙ ap (λ (x : Place). gives (placeOption x)) z
 
 -- the mount of a name by the name's place
 abbrev mountBy : List ℕ → Option Part → Option Mount

@@ -1,0 +1,173 @@
+-- `lent::search::search` meets its contract: each try is shorter than the one before.
+-- Assumes nothing.
+use mathlib.Core.Path.{sym, ap, _∙_}
+use native.Mathlib.Nat.{le-of-lt}
+use lib.ListN.{length, length-take}
+use lib.Seq.{length-take-le}
+use Rattle.lent.proofs.Searches.{front-shorter, looked-up, path-is-mount, no-mount, shorter-path}
+use Rattle.lent.specs.Mounts.{slashPart}
+use borrow.Author.Needs.{needs}
+use native.Mathlib.Omega.{arith}
+use Prim.Native.Nat.{ℕ, _<_}
+use borrow.Fn.Kinds.{In}
+use borrow.Fn.PlainCycle.{Measures, is, falls, and}
+use Rattle.lent.proofs.search.search.Reads as search′
+use Rattle.lent.proofs.search.search.Kinds as search-kinds
+use Rattle.lent.proofs.search.+search.Lts-search as search-lts
+use Rattle.headers.proofs.lookup.seek.Reads as seek-reads
+use Rattle.lent.proofs.search.last_slash.Reads as last-slash-reads
+use Rattle.lent.proofs.search.+search.{statement}
+use Rattle.lent.proofs.search.+search.Tie.{close}
+
+abbrev μ-search : Measures 2 search-kinds.ps ℕ
+μ-search κs a = length (a .1 .0 .now)
+
+abbrev search-at : ℕ → In 2 search-kinds.ps
+search-at t = and 2 search-kinds.ps (is 2 search-kinds.ps μ-search t) search′.Pre
+
+abbrev search-below : ℕ → In 2 search-kinds.ps
+search-below t = and 2 search-kinds.ps (falls 2 search-kinds.ps _<_ μ-search t) search′.Pre
+
+search-seek-requires : (t : ℕ) → search-lts.Need-seek-requires (
+  seek-reads.Asked,
+  seek-reads.Learnt,
+  last-slash-reads.Asked,
+  last-slash-reads.Learnt,
+  search-below t,
+  search′.Post,
+) (search-at t) search′.Post
+search-seek-requires t c κs = search needs
+
+search-enum-known-p : (t : ℕ) → search-lts.Need-enum-known-p (
+  seek-reads.Asked,
+  seek-reads.Learnt,
+  last-slash-reads.Asked,
+  last-slash-reads.Learnt,
+  search-below t,
+  search′.Post,
+) (search-at t) search′.Post
+search-enum-known-p t c = search needs
+
+search-enum-told : (t : ℕ) → search-lts.Need-enum-told (
+  seek-reads.Asked,
+  seek-reads.Learnt,
+  last-slash-reads.Asked,
+  last-slash-reads.Learnt,
+  search-below t,
+  search′.Post,
+) (search-at t) search′.Post
+search-enum-told t c = search needs
+
+search-last-slash-requires : (t : ℕ) → search-lts.Need-last-slash-requires (
+  seek-reads.Asked,
+  seek-reads.Learnt,
+  last-slash-reads.Asked,
+  last-slash-reads.Learnt,
+  search-below t,
+  search′.Post,
+) (search-at t) search′.Post
+search-last-slash-requires t c κs = search needs
+
+search-enum-known-s : (t : ℕ) → search-lts.Need-enum-known-s (
+  seek-reads.Asked,
+  seek-reads.Learnt,
+  last-slash-reads.Asked,
+  last-slash-reads.Learnt,
+  search-below t,
+  search′.Post,
+) (search-at t) search′.Post
+search-enum-known-s t c = search needs
+
+search-enum-told-2 : (t : ℕ) → search-lts.Need-enum-told-2 (
+  seek-reads.Asked,
+  seek-reads.Learnt,
+  last-slash-reads.Asked,
+  last-slash-reads.Learnt,
+  search-below t,
+  search′.Post,
+) (search-at t) search′.Post
+search-enum-told-2 t c = search needs
+
+search-returns : (t : ℕ) → search-lts.Need-returns (
+  seek-reads.Asked,
+  seek-reads.Learnt,
+  last-slash-reads.Asked,
+  last-slash-reads.Learnt,
+  search-below t,
+  search′.Post,
+) (search-at t) search′.Post
+search-returns t c =
+    let s = c .before .before .before .before .before .before .before .before in
+    no-mount (s .args .mounts .now) (s .args .path .now) (s .pre .1) (looked-up _ _ _ _ (c .before .before .before .before .before .seek .ensures) (c .before .before .before .enum-told .given .1)) (sym (c .before .before .last-slash .ensures) ∙ ap (slashPart _) (c .enum-told2 .given .1))
+
+search-slice-aggregate-search : (t : ℕ) → search-lts.Need-slice-aggregate-search (
+  seek-reads.Asked,
+  seek-reads.Learnt,
+  last-slash-reads.Asked,
+  last-slash-reads.Learnt,
+  search-below t,
+  search′.Post,
+) (search-at t) search′.Post
+search-slice-aggregate-search t c =
+    let s = c .before .before .before .before .before .before .before .before .before .before in
+    sym (length-take-le _ (s .args .path .now) (le-of-lt (front-shorter (s .args .path .now) _ (sym (c .before .before .before .before .last-slash .ensures) ∙ ap (slashPart _) (c .before .before .s .given .1)))))
+
+search-search-requires : (t : ℕ) → search-lts.Need-search-requires (
+  seek-reads.Asked,
+  seek-reads.Learnt,
+  last-slash-reads.Asked,
+  last-slash-reads.Learnt,
+  search-below t,
+  search′.Post,
+) (search-at t) search′.Post
+search-search-requires t c κs =
+    let s = c .before .before .before .before .before .before .before .before .before .before in
+    let k = c .before .before .s .given .0 .0 in
+    (omega (arith, length-take k (s .args .path .now), front-shorter (s .args .path .now) k (sym (c .before .before .before .before .last-slash .ensures) ∙ ap (slashPart _) (c .before .before .s .given .1)), s .pre .0), s .pre .1)
+
+search-returns-2 : (t : ℕ) → search-lts.Need-returns-2 (
+  seek-reads.Asked,
+  seek-reads.Learnt,
+  last-slash-reads.Asked,
+  last-slash-reads.Learnt,
+  search-below t,
+  search′.Post,
+) (search-at t) search′.Post
+search-returns-2 t c =
+    let s = c .before .before .before .before .before .before .before .before .before .before .before in
+    c .search .ensures ∙ shorter-path (s .args .mounts .now) (s .args .path .now) (s .pre .1) _ (looked-up _ _ _ _ (c .before .before .before .before .before .before .before .before .seek .ensures) (c .before .before .before .before .before .before .enum-told .given .1)) (sym (c .before .before .before .before .before .last-slash .ensures) ∙ ap (slashPart _) (c .before .before .before .s .given .1))
+
+search-returns-3 : (t : ℕ) → search-lts.Need-returns-3 (
+  seek-reads.Asked,
+  seek-reads.Learnt,
+  last-slash-reads.Asked,
+  last-slash-reads.Learnt,
+  search-below t,
+  search′.Post,
+) (search-at t) search′.Post
+search-returns-3 t c =
+    let s = c .before .before .before .before .before .before in
+    path-is-mount (s .args .mounts .now) (s .args .path .now) (s .pre .1) _ (looked-up _ _ _ _ (c .before .before .before .seek .ensures) (c .before .p .given .1))
+
+pub +search-spec : {M : Type 1} → statement M
++search-spec = close μ-search λ t. search-lts.spec (
+  seek-reads.Asked,
+  seek-reads.Learnt,
+  last-slash-reads.Asked,
+  last-slash-reads.Learnt,
+  search-below t,
+  search′.Post,
+)
+    (search-at t)
+    search′.Post
+    (search-seek-requires t)
+    (search-enum-known-p t)
+    (search-enum-told t)
+    (search-last-slash-requires t)
+    (search-enum-known-s t)
+    (search-enum-told-2 t)
+    (search-returns t)
+    (search-slice-aggregate-search t)
+    (search-search-requires t)
+    (search-returns-2 t)
+    (search-returns-3 t)
