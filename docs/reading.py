@@ -23,10 +23,10 @@ CALLS = [('capi/src/*.rt', EXPORTED), ('headers/src/lookup.rt', r'pub fn (value)
 # the claims that docs/AUDIT.md cites, by crate
 CLAIMS = {
     'headers': ['LookupFindsValue', 'NumbersHold'],
-    'scgi': ['AcceptsExactly', 'WritesExactly', 'WriteThenRead', 'ReadThenWrite', 'SpoolsHold', 'NumbersHold'],
-    'lent': ['MountIsLongest', 'RouteIsPath'],
+    'scgi': ['AcceptsExactly', 'WritesExactly', 'WriteThenRead', 'ReadThenWrite', 'SpoolsHold', 'WindowReadsAll', 'NumbersHold'],
+    'lent': ['MountIsLongest', 'LongestWins', 'PoolsAreValues', 'RouteIsPath'],
     'gateway': ['BytesExactlyMeaning', 'WrittenIsAccepted', 'NumbersHold', 'WorkedCases'],
-    'response': ['TableHolds', 'StatusHolds', 'ServedIsTarget', 'LocationStands', 'PlacesWithin', 'NumbersHold'],
+    'response': ['TableHolds', 'StatusHolds', 'ServedIsTarget', 'LocationStands', 'PlacesWithin', 'StreamSettles', 'NumbersHold'],
     'capi': ['ZeroIsGiven', 'RefusalKeeps'],
 }
 
