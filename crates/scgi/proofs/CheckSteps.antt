@@ -1,5 +1,6 @@
 -- Laws of the steps of a block's check, for the code that makes them.
 -- Assumes nothing.
+use Prim.{absurd}
 use Prim.Native.Nat.{ℕ, min, _+_, _-_, _≤_, _<_}
 use mathlib.Core.Path.{_≡_, refl, sym, ap, _∙_}
 use mathlib.Core.Bool.{Bool, true, false, cond, _&&_, _||_}
@@ -19,13 +20,12 @@ use Rattle.octets.proofs.Bools.{or-false}
 use Rattle.octets.proofs.Compares.{same-true, same-false}
 use Rattle.octets.proofs.Names.{test-different}
 use Rattle.octets.proofs.Outcomes.{Gave, then-gives}
-use Rattle.headers.specs.Block.{Header, names, parsed, wellFormed, countOf, HeaderFound}
+use Rattle.headers.specs.Block.{Header, names, parsed, wellFormed, countOf, headerIn, HeaderFound}
 use Rattle.scgi.specs.Grammar.{scgi1}
 use Rattle.headers.specs.Lookup.{Part, partOption, valueIn, lookupOf}
 use Rattle.scgi.specs.Check.{statedBy, statedIn, has, hasScgi, restOf, checkBlock}
-use Rattle.headers.specs.declared.block.HeaderPlace.the-variants.{At}
-use Rattle.headers.proofs.Walks.{behind-header, none-behind, Counted, counted}
-use Rattle.headers.proofs.Lookups.{well, well-parsed, value-found}
+use Rattle.headers.specs.Claims.{Headed}
+use Rattle.headers.proofs.Claims.{well-formed-headed, headers-few, lookup-finds-value}
 
 -- The stated length.
 
@@ -41,20 +41,34 @@ need-capped false o = refl
 abbrev pub firstStates : List ℕ → ℕ → ℕ → Outcome ℕ
 firstStates b n v = need (sameBytes (take n b) (bytes "CONTENT_LENGTH")) 8 (given (capped (numberOf (take (v - (n + 1)) (drop (n + 1) b)))) 8)
 
+headed : (b : List ℕ) → wellFormed b ≡ true → Headed b
+headed b = well-formed-headed b .0
+
+no-headers : (hs : List Header) → length hs ≡ 0 → hs ≡ []
+no-headers [] e = refl
+no-headers (h ∷ hs) e = absurd (omega arith)
+
 module _ (b : List ℕ) (w : wellFormed b ≡ true) where
   pub states-none : length b ≡ 0 → statedIn b ≡ refused 8
   states-none z =
-      let p = well b w in
-      let e : p .hs ≡ [] = none-behind b 0 (p .hs) (p .is) (omega arith) in
+      let p = headed b w in
+      let e : p .hs ≡ [] = no-headers (p .hs) (omega (arith, headers-few b (p .hs) (p .is))) in
       ap (λ (o : Outcome (List Header)). then o (λ hs. then (statedBy hs) (λ n. gives (min n cap)))) (p .is ∙ ap gives e)
 
-  pub states-first : (n v : ℕ) → HeaderFound b 0 (At n v) → statedIn b ≡ firstStates b n v
+  pub states-first : (n v : ℕ) → HeaderFound b 0 (gives (record { nameEnd = n; valueEnd = v })) → statedIn b ≡ firstStates b n v
   states-first n v h =
-      let p = well b w in
-      let g = behind-header b 0 (p .hs) (p .is) n v h in
-      ap (λ (o : Outcome (List Header)). then o (λ hs. then (statedBy hs) (λ n. gives (min n cap)))) (p .is ∙ ap gives (g .is))
+      let p = headed b w in
+      let g = then-gives (parsed (drop (v + 1) b)) (λ hs. gives (headerIn b 0 n v ∷ hs)) (p .hs) (h .answer ∙ p .is) in
+      ap (λ (o : Outcome (List Header)). then o (λ hs. then (statedBy hs) (λ n. gives (min n cap)))) (p .is ∙ sym (g .next))
       ∙ need-capped (sameBytes (take (n - 0) b) (bytes "CONTENT_LENGTH")) (numberOf (take (v - (n + 1)) (drop (n + 1) b)))
       ∙ rw (sub-zero n)
+
+  -- a first header is found where there are bytes
+  pub never-unheaded : {A : Type 0} {o : A} {e : A} (n : ℕ) → HeaderFound b 0 (refused n) → o ≡ e
+  never-unheaded n h =
+      let p = headed b w in
+      let e : refused n ≡ gives (p .hs) = h .answer ∙ p .is in
+      cc
 
 -- The header SCGI.
 
@@ -97,16 +111,37 @@ module _ (b : List ℕ) (d : then (parsed b) (λ hs. gives (different (names hs)
   pub differ-well : wellFormed b ≡ true
   differ-well =
       let p = differ b d in
-      well-parsed b (p .hs) (p .is)
+      well-formed-headed b .1 (record { hs = p .hs; is = p .is })
 
   -- what the place of SCGI's value says
   pub scgi-at : (o : Option Part) → lookupOf b (bytes "SCGI") ≡ gives o → hasScgi b ≡ gives (isValue (partOption b o) (bytes "1"))
   scgi-at o e =
       let p = differ b d in
       rw (p .is)
-      (ap gives (has-value scgi1 (p .hs) (p .names-differ) ∙ ap (λ (w : Option (List ℕ)). isValue w (bytes "1")) (sym (value-found b (bytes "SCGI") (p .hs) o (p .is) e))))
+      (ap gives (has-value scgi1 (p .hs) (p .names-differ) ∙ ap (λ (w : Option (List ℕ)). isValue w (bytes "1")) (sym (lookup-finds-value b (bytes "SCGI") (p .hs) o (p .is) e))))
 
 -- The whole chain, step by step, where the block has n headers.
+
+-- a refusal of the parse is every step's
+count-refused : {A : Type 0} (o : Outcome (List Header)) (n : ℕ) (f : List Header → Outcome A) → then o (λ hs. gives (length hs)) ≡ refused n → then o f ≡ refused n
+count-refused (refused k) n f e = cc
+count-refused (gives hs) n f e = cc
+
+pub no-count : (b : List ℕ) (n : ℕ) → countOf b ≡ refused n → checkBlock b ≡ refused n
+unfolding checkBlock
+no-count b n e = count-refused (parsed b) n _ e
+
+-- the headers of a block that has n
+record Counted (b : List ℕ) (n : ℕ) : Type 0 where
+  hs : List Header
+  is : parsed b ≡ gives hs
+  count : length hs ≡ n
+
+counted : (b : List ℕ) (n : ℕ) → countOf b ≡ gives n → Counted b n
+counted b n e =
+    let g = then-gives (parsed b) (λ hs. gives (length hs)) n e in
+    let q : gives (length (g .it)) ≡ gives n = g .next in
+    record { hs = g .it; is = g .first; count = cc }
 
 module _ (b : List ℕ) (n : ℕ) (c : countOf b ≡ gives n) where
   abbrev headers : Counted b n

@@ -3,7 +3,6 @@
 use Prim.Native.Nat.{ℕ, _≤_}
 use Prim.{absurd}
 use mathlib.Core.Path.{_≡_, refl, ap, _∙_}
-use mathlib.Core.Option.{some}
 use mathlib.Core.Bool.{Bool, true, false, _&&_, _||_}
 use mathlib.Core.List.{List, [], _∷_}
 use native.Mathlib.Omega.{arith}
@@ -20,10 +19,10 @@ use Rattle.octets.proofs.Outcomes.{need-gives, given-gives, then-gives}
 use Rattle.octets.proofs.Compares.{same-true, same-refl}
 use Rattle.octets.proofs.Names.{different-test, test-different}
 use Rattle.octets.proofs.Decimals.{number-of-says, says-of-number}
-use Rattle.headers.specs.Block.{Header, names, printed, headersOf, Among, here, later}
+use Rattle.headers.specs.Block.{Header, names, printed, parsed, Among, here, later}
 use Rattle.scgi.specs.Grammar.{States, first, scgi1, IsRequest}
 use Rattle.scgi.specs.Check.{statedBy, has, checkBlock}
-use Rattle.headers.proofs.Blocks.{read-printed, printed-read, same-header}
+use Rattle.headers.proofs.Claims.{printed-parsed, headers-proper}
 
 states-test : (n : ℕ) (hs : List Header) → States n hs → statedBy hs ≡ gives n
 states-test n (h ∷ hs) (first e p) = rw (e, same-refl (bytes "CONTENT_LENGTH"), number-of-says n (h .value) p)
@@ -33,6 +32,10 @@ test-states n [] e = absurd (let z : _≡_ {A = ℕ} 0 1 = cc in omega arith)
 test-states n (h ∷ hs) e =
     let a = need-gives (sameBytes (h .name) (bytes "CONTENT_LENGTH")) 8 (given (numberOf (h .value)) 8) n e in
     first (same-true (h .name) (bytes "CONTENT_LENGTH") (a .0)) (says-of-number n (h .value) (given-gives (numberOf (h .value)) 8 n (a .1)))
+
+same-header : (h h′ : Header) → h .name ≡ h′ .name → h .value ≡ h′ .value → h ≡ h′
+same-header h h′ n v =
+    ap {B = Header} (λ (x : List ℕ). record { name = x; value = h .value }) n ∙ ap {B = Header} (λ (y : List ℕ). record { name = h′ .name; value = y }) v
 
 -- a header among others
 pub among-test : (x : Header) (hs : List Header) → Among x hs → has x hs ≡ true
@@ -58,12 +61,12 @@ pub check-request : (hs : List Header) (body : List ℕ) → IsRequest hs body �
 unfolding checkBlock
 check-request hs body r =
     rw
-    (read-printed hs (r .proper), le-leb (length hs) 128 (r .header-limit), different-test (names hs) (r .differ), states-test (length body) hs (r .states), le-leb (length body) 1048576 (r .body-limit), among-test scgi1 hs (r .scgi))
+    (printed-parsed .back hs (r .proper), le-leb (length hs) 128 (r .header-limit), different-test (names hs) (r .differ), states-test (length body) hs (r .states), le-leb (length body) 1048576 (r .body-limit), among-test scgi1 hs (r .scgi))
 
 -- the links of a block that passes
 record Passed (b : List ℕ) (n : ℕ) : Type 0 where
   hs : List Header
-  parted : headersOf b ≡ some hs
+  parted : parsed b ≡ gives hs
   count : length hs ≤ 128
   differ : different (names hs) ≡ true
   stated : statedBy hs ≡ gives n
@@ -73,7 +76,7 @@ record Passed (b : List ℕ) (n : ℕ) : Type 0 where
 passed : (b : List ℕ) (n : ℕ) → checkBlock b ≡ gives n → Passed b n
 unfolding checkBlock
 passed b n e =
-    let a = then-gives (given (headersOf b) 5) _ n e in
+    let a = then-gives (parsed b) _ n e in
     let hs : List Header = a .it in
     let c = need-gives (leb (length hs) 128) 6 _ n (a .next) in
     let d = need-gives (different (names hs)) 7 _ n (c .1) in
@@ -84,7 +87,7 @@ passed b n e =
     let u : f .it ≡ n = cc in
     record {
       hs = hs;
-      parted = given-gives (headersOf b) 5 hs (a .first);
+      parted = a .first;
       count = leb-true (length hs) 128 (c .0);
       differ = d .0;
       stated = f .first ∙ ap gives u;
@@ -105,17 +108,17 @@ pub record Requested (b body : List ℕ) : Type 0 where
 pub checked-request : (b body : List ℕ) → length b ≤ 16384 → checkBlock b ≡ gives (length body) → Requested b body
 checked-request b body m e =
     let q = passed b (length body) e in
-    let p = printed-read b (q .hs) (q .parted) in
+    let p : printed (q .hs) ≡ b = printed-parsed .bytes b (q .hs) (q .parted) in
     record {
       hs = q .hs;
-      block = p .bytes;
+      block = p;
       request =
           record {
-            proper = p .proper;
+            proper = headers-proper b (q .hs) (q .parted);
             differ = test-different (names (q .hs)) (q .differ);
             states = test-states (length body) (q .hs) (q .stated);
             scgi = test-among scgi1 (q .hs) (q .scgi);
-            block-limit = rw (p .bytes) m;
+            block-limit = rw p m;
             header-limit = q .count;
             body-limit = q .small;
           };

@@ -1,6 +1,6 @@
 -- How long a request can be: bytes that the reader takes for a cut request are fewer than the largest request has.
 -- Assumes nothing.
-use Prim.Native.Nat.{ℕ, suc, _+_, _*_, _-_, _≤_, _<_}
+use Prim.Native.Nat.{ℕ, _+_, _*_, _-_, _≤_, _<_}
 use Prim.{absurd}
 use mathlib.Core.Path.{_≡_, refl, sym, ap, _∙_}
 use mathlib.Core.Bool.{Bool, true, false, cond, not, _&&_}
@@ -8,9 +8,9 @@ use mathlib.Core.List.{List, [], _∷_}
 use native.Mathlib.Omega.{arith}
 use lib.Dec.{eqb, leb, ltb}
 use lib.ListN.{length, getD, take, drop, length-drop}
-use borrow.Author.Tests.{ltb-true, ltb-false, leb-true, leb-false, lt-ltb, eqb-true, eqb-false, not-true}
+use borrow.Author.Tests.{ltb-false, leb-true, leb-false, lt-ltb, eqb-false, not-true}
 use Rattle.octets.specs.Outcome.{Outcome, refused, gives, then, need}
-use Rattle.octets.specs.Kinds.{isDigit, oneOf}
+use Rattle.octets.specs.Kinds.{isDigit}
 use Rattle.octets.specs.Decimal.{decimal}
 use Rattle.octets.proofs.Bools.{and-right}
 use Rattle.octets.proofs.Decimals.{five-digits}

@@ -5,21 +5,20 @@ use mathlib.Core.Path.{_≡_, refl, sym, ap, _∙_}
 use mathlib.Core.List.{List, _∷_, _++_, append-assoc}
 use native.Mathlib.Nat.{add-assoc}
 use native.Mathlib.Numerals.{add-one}
-use mathlib.Core.Option.{some}
 use native.Mathlib.Omega.{arith}
 use lib.ListN.{length, getD, take, drop, length-append, length-drop, take-append-drop}
 use lib.Seq.{length-take-le, take-append-seam, drop-append-seam, drop-append-add, getD-append-seam, getD-drop, drop-drop, split-at}
 use borrow.Author.Tests.{lt-ltb, eq-eqb, le-leb}
 use Rattle.octets.specs.Outcome.{gives}
 use Rattle.octets.specs.Decimal.{decimal}
-use Rattle.headers.specs.Block.{Header, printed, headersOf}
+use Rattle.headers.specs.Block.{Header, printed, parsed}
 use Rattle.scgi.specs.Grammar.{netstring, encoded, IsRequest}
 use Rattle.scgi.specs.Check.{checkBlock}
 use Rattle.scgi.specs.Netstring.{NetLength}
 use Rattle.scgi.specs.Read.{Places, placesAt, readOf, blockIn, bodyIn}
 use Rattle.scgi.specs.Claims.{placesOf, Accepted, AcceptsExactly, RequestOnce}
 use Rattle.scgi.proofs.Lengths.{lengthAt, read-decimal, written}
-use Rattle.headers.proofs.Blocks.{read-printed}
+use Rattle.headers.proofs.Claims.{printed-parsed}
 use Rattle.scgi.proofs.Checks.{check-request, Requested, checked-request}
 use Rattle.scgi.proofs.Reader.{links}
 
@@ -194,7 +193,7 @@ request-once hs hs′ body body′ rest rest′ r r′ e =
     let p′ : readOf (encoded hs body ++ rest) ≡ gives (placesOf hs′ body′) = from-accepted s (placesOf hs′ body′) (record { hs = hs′; body = body′; rest = rest′; is = e; request = r′; at = refl }) in
     let q : placesOf hs body ≡ placesOf hs′ body′ = cc in
     let b : printed hs ≡ printed hs′ = sym (block-is s (placesOf hs body) hs body rest refl refl) ∙ block-is s (placesOf hs body) hs′ body′ rest′ e q in
-    let h : some hs ≡ some hs′ = sym (read-printed hs (r .proper)) ∙ ap headersOf b ∙ read-printed hs′ (r′ .proper) in
+    let h : gives hs ≡ gives hs′ = sym (printed-parsed .back hs (r .proper)) ∙ ap parsed b ∙ printed-parsed .back hs′ (r′ .proper) in
     let f : encoded hs body ≡ encoded hs′ body′ = sym (front-is s (placesOf hs body) hs body rest refl refl) ∙ front-is s (placesOf hs body) hs′ body′ rest′ e q in (
       cc,
       sym (body-is s (placesOf hs body) hs body rest refl refl) ∙ body-is s (placesOf hs body) hs′ body′ rest′ e q,

@@ -13,15 +13,15 @@ use borrow.Author.Tests.{eqb-true, eqb-false}
 use Rattle.octets.specs.Outcome.{refused, gives}
 use Rattle.octets.specs.Copy.{over}
 use Rattle.octets.proofs.Copies.{over-nil, store-last}
-use Rattle.framing.specs.Spool.{Spool, whole, cut, refusedBy, full, ended, before, behind, spoolOf, total}
+use Rattle.framing.specs.Spool.{Spool, cut, refusedBy, ended, before, behind, total}
 use Rattle.framing.specs.Spool as Framing
 use Rattle.framing.specs.Claims.{Frames}
 use Rattle.framing.proofs.SpoolSteps.{at-end, at-cut, at-refused, at-full, onward}
 use Rattle.scgi.specs.Read.{usedOf}
 use Rattle.scgi.specs.Spool.{endingOf, requestsOf, SpoolDone}
 use Rattle.scgi.specs.declared.spool.Ending.{Ending}
-use Rattle.scgi.specs.declared.spool.Ending.the-variants.{Whole, Full}
-use Rattle.scgi.specs.declared.spool.Spooled.{Spooled}
+use Rattle.scgi.specs.declared.spool.Ending.the-variants.{Stopped}
+use Rattle.scgi.specs.declared.spool.Stop.the-variants.{Whole, Full}
 use Rattle.scgi.proofs.Reader.{spools-hold}
 
 frames : Frames usedOf
@@ -57,8 +57,8 @@ module _ {s d : List ℕ} {i n : ℕ} {out : List ℕ} (r : Standing s d i n out
         list = r .stored ∙ ap (over d 0) (sym l);
       }
 
-  pub none-left : length s ≤ i → SpoolDone s d out (record { count = n; next = i; ending = Whole })
-  none-left h = ends Whole (rw (drop-of-length-le s h) (at-end usedOf frames (length d - n)))
+  pub none-left : length s ≤ i → SpoolDone s d out (record { count = n; next = i; ending = Stopped Whole })
+  none-left h = ends (Stopped Whole) (rw (drop-of-length-le s h) (at-end usedOf frames (length d - n)))
 
   module _ (more : i < length s) where
     some : 0 < length (drop i s)
@@ -82,10 +82,10 @@ module _ {s d : List ℕ} {i n : ℕ} {out : List ℕ} (r : Standing s d i n out
       pub used-some : 0 < u
       used-some = frames .within (drop i s) u reads .0
 
-      pub no-room : length d ≤ n → SpoolDone s d out (record { count = n; next = i; ending = Full })
+      pub no-room : length d ≤ n → SpoolDone s d out (record { count = n; next = i; ending = Stopped Full })
       no-room h =
           let z : length d - n ≡ 0 = omega arith in
-          ends Full (rw z (at-full usedOf frames (drop i s) some u reads))
+          ends (Stopped Full) (rw z (at-full usedOf frames (drop i s) some u reads))
 
       pub stored-one : n < length d → Standing s d (i + u) (n + 1) (set out n u)
       unfolding total

@@ -10,17 +10,29 @@ use Rattle.framing.specs.Spool.{Spool, whole, cut, refusedBy, full, spoolOf, to
 use Rattle.framing.specs.Spool as Framing
 use Rattle.scgi.specs.Read.{usedOf}
 use Rattle.scgi.specs.declared.spool.Ending.{Ending}
-use Rattle.scgi.specs.declared.spool.Ending.the-variants.{Whole, Cut, Refused, Full}
+use Rattle.scgi.specs.declared.spool.Ending.the-variants.{Stopped, Refused}
+use Rattle.scgi.specs.declared.spool.Stop.{Stop}
+use Rattle.scgi.specs.declared.spool.Stop.the-variants.{Whole, Cut, Full}
 use Rattle.scgi.specs.declared.spool.Used.{Used}
 use Rattle.scgi.specs.declared.spool.Used.the-variants.{Bytes, Refused as UsedRefused}
 use Rattle.scgi.specs.declared.spool.Spooled.{Spooled}
 
 -- what the code's ending says
+abbrev pub stopOf : Stop → Framing.Ending
+stopOf Whole = whole
+stopOf Cut = cut
+stopOf Full = full
+
 abbrev pub endingOf : Ending → Framing.Ending
-endingOf Whole = whole
-endingOf Cut = cut
+endingOf (Stopped s) = stopOf s
 endingOf (Refused n) = refusedBy n
-endingOf Full = full
+
+-- the N of "refused N"; 0, which no refusal has, where there is none
+abbrev pub endingRefusal : Framing.Ending → ℕ
+endingRefusal whole = 0
+endingRefusal cut = 0
+endingRefusal (refusedBy n) = n
+endingRefusal full = 0
 
 abbrev pub usedOutcome : Used → Outcome ℕ
 usedOutcome (Bytes n) = gives n

@@ -1,17 +1,15 @@
 // What is asked of a whole block.
 ghost use mathlib.Core.Path.{_≡_};
 ghost use mathlib.Core.Bool.{true};
-ghost use Rattle.octets.specs.Outcome.{gives, then};
+ghost use Rattle.octets.specs.Outcome.{gives, then, refusalOf};
 ghost use Rattle.octets.specs.Lists.{different};
-ghost use Rattle.headers.specs.Block.{parsed, wellFormed, names};
+ghost use Rattle.headers.specs.Block.{parsed, wellFormed, countOf, names};
 ghost use Rattle.scgi.specs.Check.{statedOutcome, statedIn, hasScgi, checkedOutcome, restOf, checkBlock};
 use headers::block::Count;
 use headers::block::HeaderPlace;
-use headers::block::count_headers;
 use headers::block::header_at;
 use headers::lookup::Place;
 use headers::lookup::seek;
-use headers::names::Stored;
 use headers::names::names_differ;
 use headers::names::store_names;
 use headers::names::stored_differ;
@@ -25,7 +23,20 @@ pub enum Stated {
     Refused(u8),
 }
 
-// The body length that the first header of a well formed block states.
+impl Stated {
+    // The number of the refusal.
+    pub fn number(self) -> u8
+        ensures { λ r. ⌜ r ≡ refusalOf (statedOutcome self) ⌝ }
+    {
+        match self {
+            Stated::Length(_) => 0,
+            Stated::Refused(n) => n,
+        }
+    }
+}
+
+// The body length that the first header of a well formed block states. Whatever is amiss with that header, no header too, is 8: "first header
+// is not CONTENT_LENGTH with one or more digits".
 fn stated_length(block: &[u8]) -> Stated
     requires { ⌜ wellFormed (now block) ≡ true ⌝ }
     ensures { λ r. ⌜ statedOutcome r ≡ statedIn (now (block .entry)) ⌝ }
@@ -39,6 +50,7 @@ fn stated_length(block: &[u8]) -> Stated
         value_end,
     } = h
     else {
+        // Does not come: the block is well formed.
         return Stated::Refused(8);
     };
     if !same(&block[..name_end], b"CONTENT_LENGTH") {
@@ -58,17 +70,28 @@ fn has_scgi(block: &[u8]) -> bool
     ensures { λ r. ⌜ hasScgi (now (block .entry)) ≡ gives r ⌝ }
 {
     let p = seek(block, b"SCGI");
-    match p {
-        Place::At { start, len } => same(&block[start..start + len], b"1"),
-        Place::Absent => false,
-        Place::Refused(_) => false,
-    }
+    let Place::At { start, len } = p else {
+        return false;
+    };
+    same(&block[start..start + len], b"1")
 }
 
 pub enum Checked {
     // The body length that the block states.
     Body(usize),
     Refused(u8),
+}
+
+impl Checked {
+    // The number of the refusal.
+    pub fn number(self) -> u8
+        ensures { λ r. ⌜ r ≡ refusalOf (checkedOutcome self) ⌝ }
+    {
+        match self {
+            Checked::Body(_) => 0,
+            Checked::Refused(n) => n,
+        }
+    }
 }
 
 // What is asked of a well formed block, no two names of which are equal, after its names.
@@ -78,10 +101,7 @@ fn check_rest(block: &[u8]) -> Checked
 {
     let l = stated_length(block);
     let Stated::Length(len) = l else {
-        let Stated::Refused(k) = l else {
-            return Checked::Refused(0);
-        };
-        return Checked::Refused(k);
+        return Checked::Refused(l.number());
     };
     if 1048576 < len {
         return Checked::Refused(9);
@@ -92,17 +112,11 @@ fn check_rest(block: &[u8]) -> Checked
     Checked::Body(len as usize)
 }
 
-// Whether a block is that of a request: of any number of headers, which are counted first.
-fn check_large(block: &[u8]) -> Checked
+// Whether a block of n headers, of any number, is that of a request. Its names are walked again, with room for as many as a request may have.
+fn check_large(block: &[u8], n: usize) -> Checked
+    requires { ⌜ countOf (now block) ≡ gives n ⌝ }
     ensures { λ r. ⌜ checkedOutcome r ≡ checkBlock (now (block .entry)) ⌝ }
 {
-    let c = count_headers(block);
-    let Count::Headers(n) = c else {
-        let Count::Refused(k) = c else {
-            return Checked::Refused(0);
-        };
-        return Checked::Refused(k);
-    };
     if 128 < n {
         return Checked::Refused(6);
     }
@@ -112,18 +126,18 @@ fn check_large(block: &[u8]) -> Checked
     check_rest(block)
 }
 
-// Whether a block is that of a request. Most have at most 32 headers, and these are walked once for their count and their names.
+// Whether a block is that of a request. It is walked for the count of its headers and, of the at most 32 that most have, for their names.
 pub fn check_block(block: &[u8]) -> Checked
     ensures { λ r. ⌜ checkedOutcome r ≡ checkBlock (now (block .entry)) ⌝ }
 {
     let mut few = [0usize; 64];
-    let s = store_names(block, &mut few);
-    let Stored::Headers(n) = s else {
-        let Stored::Refused(k) = s else {
-            return check_large(block);
-        };
-        return Checked::Refused(k);
+    let c = store_names(block, &mut few);
+    let Count::Headers(n) = c else {
+        return Checked::Refused(c.number());
     };
+    if 32 < n {
+        return check_large(block, n);
+    }
     if !stored_differ(block, &few, n) {
         return Checked::Refused(7);
     }

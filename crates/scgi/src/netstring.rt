@@ -1,11 +1,24 @@
 // The length digits of a netstring.
 ghost use mathlib.Core.Path.{_≡_};
+ghost use Rattle.octets.specs.Outcome.{refusalOf};
 ghost use Rattle.scgi.specs.Netstring.{lengthOutcome, lengthOf};
 
 pub enum Length {
     // The length, and the place after the colon.
     Value { len: usize, next: usize },
     Refused(u8),
+}
+
+impl Length {
+    // The number of the refusal.
+    pub fn number(self) -> u8
+        ensures { λ r. ⌜ r ≡ refusalOf (lengthOutcome self) ⌝ }
+    {
+        match self {
+            Length::Value { len: _, next: _ } => 0,
+            Length::Refused(n) => n,
+        }
+    }
 }
 
 // The length at the start of s. The first fault from the left decides.

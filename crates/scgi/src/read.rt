@@ -1,5 +1,6 @@
 // The reader of SCGI requests.
 ghost use mathlib.Core.Path.{_≡_};
+ghost use Rattle.octets.specs.Outcome.{refusalOf};
 ghost use Rattle.scgi.specs.Read.{readingOutcome, readOf};
 use crate::check::Checked;
 use crate::check::check_block;
@@ -17,16 +18,31 @@ pub enum Reading {
     Refused(u8),
 }
 
+impl Reading {
+    // The number of the refusal.
+    pub fn number(self) -> u8
+        ensures { λ r. ⌜ r ≡ refusalOf (readingOutcome self) ⌝ }
+    {
+        match self {
+            Reading::Request {
+                block_start: _,
+                block_len: _,
+                body_start: _,
+                body_len: _,
+                used: _,
+            } => 0,
+            Reading::Refused(n) => n,
+        }
+    }
+}
+
 // The request at the start of s.
 pub fn read(s: &[u8]) -> Reading
     ensures { λ r. ⌜ readingOutcome r ≡ readOf (now (s .entry)) ⌝ }
 {
     let l = read_length(s);
     let Length::Value { len, next } = l else {
-        let Length::Refused(k) = l else {
-            return Reading::Refused(0);
-        };
-        return Reading::Refused(k);
+        return Reading::Refused(l.number());
     };
     let comma = next + len;
     if s.len() <= comma {
@@ -37,10 +53,7 @@ pub fn read(s: &[u8]) -> Reading
     }
     let c = check_block(&s[next..comma]);
     let Checked::Body(n) = c else {
-        let Checked::Refused(k) = c else {
-            return Reading::Refused(0);
-        };
-        return Reading::Refused(k);
+        return Reading::Refused(c.number());
     };
     let used = comma + 1 + n;
     if s.len() < used {

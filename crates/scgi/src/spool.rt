@@ -2,17 +2,35 @@
 ghost use mathlib.Core.Path.{_≡_};
 ghost use mathlib.Core.Bool.{cond};
 ghost use lib.Dec.{eqb};
+ghost use Rattle.octets.specs.Outcome.{refusalOf};
 ghost use Rattle.framing.specs.Spool.{cut, refusedBy};
-ghost use Rattle.scgi.specs.Spool.{endingOf, usedOutcome, SpoolDone};
+ghost use Rattle.scgi.specs.Spool.{endingOf, endingRefusal, usedOutcome, SpoolDone};
 ghost use Rattle.scgi.specs.Read.{usedOf};
 use crate::read::Reading;
 use crate::read::read;
 
-pub enum Ending {
+// How requests end where none is refused.
+pub enum Stop {
     Whole,
     Cut,
-    Refused(u8),
     Full,
+}
+
+pub enum Ending {
+    Stopped(Stop),
+    Refused(u8),
+}
+
+impl Ending {
+    // The number of the refusal.
+    pub fn number(self) -> u8
+        ensures { λ r. ⌜ r ≡ endingRefusal (endingOf self) ⌝ }
+    {
+        match self {
+            Ending::Stopped(_) => 0,
+            Ending::Refused(n) => n,
+        }
+    }
 }
 
 pub struct Spooled {
@@ -23,12 +41,12 @@ pub struct Spooled {
     pub ending: Ending,
 }
 
-// How a spool ends where the reader refuses.
+// How a spool ends where the reader refuses: "cut where the reader gives 1, refused N".
 fn refusal_ending(k: u8) -> Ending
     ensures { λ r. ⌜ endingOf r ≡ cond (eqb k 1) cut (refusedBy k) ⌝ }
 {
     if k == 1 {
-        return Ending::Cut;
+        return Ending::Stopped(Stop::Cut);
     }
     Ending::Refused(k)
 }
@@ -36,6 +54,18 @@ fn refusal_ending(k: u8) -> Ending
 pub enum Used {
     Bytes(usize),
     Refused(u8),
+}
+
+impl Used {
+    // The number of the refusal.
+    pub fn number(self) -> u8
+        ensures { λ r. ⌜ r ≡ refusalOf (usedOutcome self) ⌝ }
+    {
+        match self {
+            Used::Bytes(_) => 0,
+            Used::Refused(n) => n,
+        }
+    }
 }
 
 // How many bytes the request at the start of s has.
@@ -51,10 +81,7 @@ fn read_used(s: &[u8]) -> Used
         used,
     } = r
     else {
-        let Reading::Refused(k) = r else {
-            return Used::Refused(0);
-        };
-        return Used::Refused(k);
+        return Used::Refused(r.number());
     };
     Used::Bytes(used)
 }
@@ -68,24 +95,17 @@ pub fn spool(bytes: &[u8], lengths: &mut [u64]) -> Spooled
     while i < bytes.len() {
         let u = read_used(&bytes[i..]);
         let Used::Bytes(used) = u else {
-            let Used::Refused(k) = u else {
-                return Spooled {
-                    count: n,
-                    next: i,
-                    ending: Ending::Cut,
-                };
-            };
             return Spooled {
                 count: n,
                 next: i,
-                ending: refusal_ending(k),
+                ending: refusal_ending(u.number()),
             };
         };
         if lengths.len() <= n {
             return Spooled {
                 count: n,
                 next: i,
-                ending: Ending::Full,
+                ending: Ending::Stopped(Stop::Full),
             };
         }
         lengths[n] = used as u64;
@@ -95,6 +115,6 @@ pub fn spool(bytes: &[u8], lengths: &mut [u64]) -> Spooled
     Spooled {
         count: n,
         next: i,
-        ending: Ending::Whole,
+        ending: Ending::Stopped(Stop::Whole),
     }
 }

@@ -3,6 +3,7 @@ ghost use mathlib.Core.Path.{_≡_};
 ghost use Rattle.scgi.specs.Spool.{endingOf};
 ghost use Rattle.scgi.specs.Window.{nextOf, TurnDone};
 use crate::spool::Ending;
+use crate::spool::Stop;
 use crate::spool::spool;
 
 // What comes after a turn.
@@ -41,16 +42,18 @@ pub fn advance(held: &[u8], ended: bool, lengths: &mut [u64]) -> Turn
 fn after(e: Ending, ended: bool) -> Next
     ensures { λ r. ⌜ r ≡ nextOf ended (endingOf e) ⌝ }
 {
-    match e {
-        Ending::Full => Next::Again,
-        Ending::Refused(n) => Next::Refused(n),
-        Ending::Whole => {
+    let Ending::Stopped(s) = e else {
+        return Next::Refused(e.number());
+    };
+    match s {
+        Stop::Full => Next::Again,
+        Stop::Whole => {
             if ended {
                 return Next::Whole;
             }
             Next::More
         }
-        Ending::Cut => {
+        Stop::Cut => {
             if ended {
                 return Next::Cut;
             }

@@ -3,9 +3,10 @@ ghost use mathlib.Core.Path.{_≡_};
 ghost use mathlib.Core.List.{_++_};
 ghost use Prim.Native.Nat.{_+_, _≤_};
 ghost use lib.ListN.{length};
+ghost use Rattle.octets.specs.Outcome.{refusalOf};
 ghost use Rattle.octets.specs.Copy.{Wrote};
 ghost use Rattle.scgi.specs.Grammar.{netstring};
-ghost use Rattle.scgi.specs.Write.{inRoom, WrittenOut, Written};
+ghost use Rattle.scgi.specs.Write.{writingOutcome, inRoom, WrittenOut, Written};
 use crate::check::Checked;
 use crate::check::check_block;
 use octets::copy::put;
@@ -16,6 +17,18 @@ pub enum Writing {
     // How many bytes were written.
     Bytes(usize),
     Refused(u8),
+}
+
+impl Writing {
+    // The number of the refusal.
+    pub fn number(self) -> u8
+        ensures { λ r. ⌜ r ≡ refusalOf (writingOutcome self) ⌝ }
+    {
+        match self {
+            Writing::Bytes(_) => 0,
+            Writing::Refused(n) => n,
+        }
+    }
 }
 
 // Writes the block as netstring at the start of out, and gives the place after it.
@@ -51,10 +64,7 @@ pub fn write(block: &[u8], body: &[u8], out: &mut [u8]) -> Writing
     }
     let c = check_block(block);
     let Checked::Body(n) = c else {
-        let Checked::Refused(k) = c else {
-            return Writing::Refused(0);
-        };
-        return Writing::Refused(k);
+        return Writing::Refused(c.number());
     };
     if body.len() != n {
         return Writing::Refused(23);

@@ -1,25 +1,24 @@
 -- `scgi::check::has_scgi` meets its contract.
 -- Assumes nothing.
-use mathlib.Core.Option.{none, some}
+use mathlib.Core.Option.{some}
 use mathlib.Core.Path.{_≡_, sym, ap, _∙_}
-use Prim.{absurd}
 use native.Mathlib.Omega.{arith}
 use borrow.Author.Needs.{needs}
 use Rattle.octets.proofs.Lists.{part}
 use Rattle.octets.specs.Compare.{sameBytes}
 use Rattle.octets.specs.Outcome.{gives}
 use Rattle.octets.specs.Text.{bytes}
+use Rattle.headers.proofs.Claims.{places-inside}
+use Rattle.headers.specs.Lookup.{placeOption, lookupOf}
 use Rattle.scgi.proofs.CheckSteps.{differ-well, scgi-at}
-use Rattle.headers.proofs.Lookups.{place-fits, found-or-absent}
 use Rattle.scgi.proofs.check.has_scgi.Statement.{statement}
 use Rattle.scgi.proofs.check.has_scgi.Tie as tie
-use Rattle.headers.specs.Lookup.{placeOutcome, lookupOf}
 
 -- the place, where the pattern matched
 got :
     (c : tie.After-known-told)
     → lookupOf (c .before .before .before .before .before .before .args .block .now) (bytes "SCGI") ≡ gives (some (record { start = c .before .p .given .0 .0; len = c .before .p .given .0 .1 .0 }))
-got c = sym (c .before .before .before .seek .ensures) ∙ ap placeOutcome (c .before .p .given .1)
+got c = sym (c .before .before .before .seek .ensures) ∙ ap (λ p. gives (placeOption p)) (c .before .p .given .1)
 
 slice-aggregate-seek : tie.Need-slice-aggregate-seek
 slice-aggregate-seek c = search needs
@@ -30,8 +29,16 @@ seek-requires c κs = differ-well _ (c .before .before .pre)
 enum-known-p : tie.Need-enum-known-p
 enum-known-p c = search needs
 
+enum-told : tie.Need-enum-told
+enum-told c = search needs
+
+returns : tie.Need-returns
+returns c =
+    let s = c .before .before .before .before .before in
+    scgi-at (s .args .block .now) (s .pre) _ (sym (c .before .before .seek .ensures) ∙ ap (λ p. gives (placeOption p)) (c .enum-told .given .1))
+
 add-same : tie.Need-add-same
-add-same c = omega (arith, place-fits _ _ _ (got c))
+add-same c = omega (arith, places-inside .of-one _ _ _ (got c))
 
 sub-same : tie.Need-sub-same
 sub-same c = search needs
@@ -40,7 +47,7 @@ part-same-start : tie.Need-part-same-start
 part-same-start c = search needs
 
 part-same-end : tie.Need-part-same-end
-part-same-end c = omega (arith, place-fits _ _ _ (got c))
+part-same-end c = omega (arith, places-inside .of-one _ _ _ (got c))
 
 slice-aggregate-same : tie.Need-slice-aggregate-same
 slice-aggregate-same c = search needs
@@ -48,25 +55,11 @@ slice-aggregate-same c = search needs
 same-requires : tie.Need-same-requires
 same-requires c κs = search needs
 
-enum-told : tie.Need-enum-told
-enum-told c = search needs
-
-enum-told-2 : tie.Need-enum-told-2
-enum-told-2 c = search needs
-
-returns : tie.Need-returns
-returns c =
+returns-2 : tie.Need-returns-2
+returns-2 c =
     let s = c .before .before .before .before .before .before .before .before .before in
     let p = c .before .before .before .before .p .given .0 in
     scgi-at (s .args .block .now) (s .pre) _ (got (c .before .before .before)) ∙ ap gives (ap (λ w. sameBytes w (bytes "1")) (sym (part (s .args .block .now) (p .0) (p .1 .0))) ∙ sym (c .same .ensures))
-
-returns-2 : tie.Need-returns-2
-returns-2 c = scgi-at (c .before .before .before .before .before .args .block .now) (c .before .before .before .before .before .pre) none (sym (c .before .before .seek .ensures) ∙ ap placeOutcome (c .enum-told .given .1))
-
-returns-3 : tie.Need-returns-3
-returns-3 c =
-    let s = c .before .before .before .before .before in
-    absurd (found-or-absent (s .args .block .now) _ _ (differ-well _ (s .pre)) (sym (c .before .before .seek .ensures) ∙ ap placeOutcome (c .enum-told2 .given .1)))
 
 pub has-scgi-spec : {M : Type 1} → statement M
 has-scgi-spec =
@@ -75,14 +68,12 @@ has-scgi-spec =
     slice-aggregate-seek
     seek-requires
     enum-known-p
+    enum-told
+    returns
     add-same
     sub-same
     part-same-start
     part-same-end
     slice-aggregate-same
     same-requires
-    enum-told
-    enum-told-2
-    returns
-    returns-2
-    returns-3)
+    returns-2)

@@ -1,25 +1,27 @@
 -- `scgi::check::stated_length` meets its contract.
 -- Assumes nothing.
 use mathlib.Core.Path.{_≡_, sym, ap, _∙_}
-use Prim.{absurd}
 use native.Mathlib.Omega.{arith}
 use lib.ListN.{length-take}
 use borrow.Author.Needs.{needs}
 use borrow.Author.Tests.{not-true, not-false}
 use Rattle.octets.specs.Decimal.{numberRead}
 use Rattle.octets.specs.Outcome.{given}
-use Rattle.scgi.proofs.CheckSteps.{states-none, states-first, firstStates}
-use Rattle.headers.proofs.Lookups.{well}
-use Rattle.headers.proofs.Walks.{never-refused}
+use Rattle.headers.proofs.Claims.{header-parses}
+use Rattle.headers.specs.Block.{HeaderFound, headerOutcome}
+use Rattle.headers.specs.declared.block.HeaderPlace.the-variants.{At}
+use Rattle.scgi.proofs.CheckSteps.{states-none, states-first, never-unheaded, firstStates}
+use Rattle.scgi.specs.Check.{statedIn}
 use Rattle.scgi.proofs.check.stated_length.Statement.{statement}
 use Rattle.scgi.proofs.check.stated_length.Tie as tie
-use Rattle.headers.specs.Block.{HeaderFound}
-use Rattle.scgi.specs.Check.{statedIn}
-use Rattle.headers.specs.declared.block.HeaderPlace.the-variants.{At}
 
 -- the first header
-found : (c : tie.After-known-told) → HeaderFound (c .before .before .before .before .before .before .args .block .now) 0 (At (c .before .h .given .0 .0) (c .before .h .given .0 .1 .0))
-found c = rw (c .before .h .given .1) at (c .before .before .before .header-at .ensures)
+found :
+    (c : tie.After-known-told)
+    → HeaderFound (c .before .before .before .before .before .before .args .block .now) 0 (headerOutcome (At (c .before .h .given .0 .0) (c .before .h .given .0 .1 .0)))
+found c =
+    let h = c .before .before .before in
+    rw (sym (h .header-at .ensures) ∙ ap headerOutcome (c .before .h .given .1)) at (header-parses (h .before .before .before .args .block .now) 0 (omega (arith, h .before .if1 .left)))
 
 -- what it states
 says : (c : tie.After-known-told) → (let b = c .before .before .before .before .before .before .args .block .now in statedIn b ≡ firstStates b (c .before .h .given .0 .0) (c .before .h .given .0 .1 .0))
@@ -39,9 +41,9 @@ enum-told c = search needs
 
 returns-2 : tie.Need-returns-2
 returns-2 c =
-    let s = c .before .before .before .before .before in
-    let p = well (s .args .block .now) (s .pre) in
-    absurd (never-refused _ 0 (p .hs) (p .is) _ (rw (c .enum-told .given .1) at (c .before .before .header-at .ensures)))
+    let h = c .before .before in
+    let s = h .before .before .before in
+    never-unheaded (s .args .block .now) (s .pre) _ (rw (sym (h .header-at .ensures) ∙ ap headerOutcome (c .enum-told .given .1)) at (header-parses (s .args .block .now) 0 (omega (arith, h .before .if1 .left))))
 
 slice-aggregate-same : tie.Need-slice-aggregate-same
 slice-aggregate-same c = simp length-take (omega (arith, found (c .before) .order))

@@ -1,6 +1,5 @@
 -- `scgi::netstring::read_length` meets its contract.
 -- Assumes nothing.
-use mathlib.Core.Bool.{not, _&&_}
 use mathlib.Core.List.{List}
 use mathlib.Core.Logic.{⊎-elim}
 use mathlib.Core.Path.{_≡_, refl, ap, _∙_}

@@ -9,10 +9,10 @@ use Rattle.octets.specs.Outcome.{gives}
 use Rattle.scgi.proofs.Checks.{check-bound}
 use Rattle.scgi.proofs.Lengths.{length-bounds}
 use Rattle.scgi.proofs.ReadSteps.{no-length, no-comma, other-comma, block-refused, short-body, whole-request}
-use Rattle.scgi.proofs.read.read.Statement.{statement}
-use Rattle.scgi.proofs.read.read.Tie as tie
 use Rattle.scgi.specs.Check.{checkedOutcome, checkBlock}
 use Rattle.scgi.specs.Netstring.{lengthOutcome, lengthOf}
+use Rattle.scgi.proofs.read.read.Statement.{statement}
+use Rattle.scgi.proofs.read.read.Tie as tie
 
 -- the length, where the pattern matched
 got :
@@ -33,7 +33,7 @@ checked c =
 
 -- the body length, where the pattern matched
 body :
-    (c : tie.After-known-told4)
+    (c : tie.After-known-told2)
     → (let l = c .before .before .before .before .before .before .before .before .before in
     let v = l .l .given .0 in
     checkBlock (take (v .0) (drop (v .1 .0) (l .before .before .before .before .args .s .now))) ≡ gives (c .before .c .given .0 .0))
@@ -45,32 +45,28 @@ read-length-requires c κs = search needs
 enum-known-l : tie.Need-enum-known-l
 enum-known-l c = search needs
 
-enum-known-l-2 : tie.Need-enum-known-l-2
-enum-known-l-2 c = search needs
-
-enum-known-l-3 : tie.Need-enum-known-l-3
-enum-known-l-3 c = search needs
-
 enum-told : tie.Need-enum-told
 enum-told c = search needs
 
-returns : tie.Need-returns
-returns c = search needs
+number-requires : tie.Need-number-requires
+number-requires c κs = search needs
 
-returns-2 : tie.Need-returns-2
-returns-2 c = sym (no-length _ _ (sym (c .before .before .before .before .before .before .read-length .ensures) ∙ ap lengthOutcome (c .before .before .before .before .l2 .given .1 ∙ c .before .l3 .given .1)))
+returns : tie.Need-returns
+returns c =
+    let e = c .before .enum-told .given .1 in
+    rw (c .number .ensures, e) (sym (no-length _ _ (sym (c .before .before .before .read-length .ensures) ∙ ap lengthOutcome e)))
 
 add-comma : tie.Need-add-comma
 add-comma c = omega (arith, length-bounds _ _ (got c))
 
-returns-3 : tie.Need-returns-3
-returns-3 c = sym (no-comma _ _ (got (c .before)) (c .if1 .taken))
+returns-2 : tie.Need-returns-2
+returns-2 c = sym (no-comma _ _ (got (c .before)) (c .if1 .taken))
 
 shared-slice-read-if2 : tie.Need-shared-slice-read-if2
 shared-slice-read-if2 c = search needs
 
-returns-4 : tie.Need-returns-4
-returns-4 c = sym (other-comma _ _ (got (c .before .before .before)) (c .before .before .if1 .left) (c .if2 .taken))
+returns-3 : tie.Need-returns-3
+returns-3 c = sym (other-comma _ _ (got (c .before .before .before)) (c .before .before .if1 .left) (c .if2 .taken))
 
 sub-check-block : tie.Need-sub-check-block
 sub-check-block c = search needs
@@ -87,23 +83,18 @@ check-block-requires c κs = search needs
 enum-known-c : tie.Need-enum-known-c
 enum-known-c c = search needs
 
-enum-known-c-2 : tie.Need-enum-known-c-2
-enum-known-c-2 c = search needs
-
-enum-known-c-3 : tie.Need-enum-known-c-3
-enum-known-c-3 c = search needs
-
 enum-told-2 : tie.Need-enum-told-2
 enum-told-2 c = search needs
 
-returns-5 : tie.Need-returns-5
-returns-5 c = search needs
+number-requires-2 : tie.Need-number-requires-2
+number-requires-2 c κs = search needs
 
-returns-6 : tie.Need-returns-6
-returns-6 c =
-    let k = c .before .before .before .before .before .before in
+returns-4 : tie.Need-returns-4
+returns-4 c =
+    let k = c .before .before .before in
     let t = k .before .before in
-    sym (block-refused _ _ (got (t .before .before .before)) (t .before .before .if1 .left) (t .if2 .left) _ (checked k ∙ ap checkedOutcome (c .before .before .before .before .c2 .given .1 ∙ c .before .c3 .given .1)))
+    let e = c .before .enum-told2 .given .1 in
+    rw (c .number2 .ensures, e) (sym (block-refused _ _ (got (t .before .before .before)) (t .before .before .if1 .left) (t .if2 .left) _ (checked k ∙ ap checkedOutcome e)))
 
 add-used : tie.Need-add-used
 add-used c = search needs
@@ -111,16 +102,16 @@ add-used c = search needs
 add-used-2 : tie.Need-add-used-2
 add-used-2 c = omega (arith, check-bound _ _ (body c))
 
-returns-7 : tie.Need-returns-7
-returns-7 c =
+returns-5 : tie.Need-returns-5
+returns-5 c =
     let t = c .before .before .before .before .before .before in
     sym (short-body _ _ (got (t .before .before .before)) (t .before .before .if1 .left) (t .if2 .left) _ (body (c .before)) (c .if3 .taken))
 
-add-t11 : tie.Need-add-t11
-add-t11 c = search needs
+add-t10 : tie.Need-add-t10
+add-t10 c = search needs
 
-returns-8 : tie.Need-returns-8
-returns-8 c =
+returns-6 : tie.Need-returns-6
+returns-6 c =
     let t = c .before .before .before .before .before .before in
     sym (whole-request _ _ (got (t .before .before .before)) (t .before .before .if1 .left) (t .if2 .left) _ (body (c .before)) (c .if3 .left))
 
@@ -130,27 +121,23 @@ read-spec =
     (tie.spec
     read-length-requires
     enum-known-l
-    enum-known-l-2
-    enum-known-l-3
     enum-told
+    number-requires
     returns
-    returns-2
     add-comma
-    returns-3
+    returns-2
     shared-slice-read-if2
-    returns-4
+    returns-3
     sub-check-block
     part-check-block-start
     part-check-block-end
     check-block-requires
     enum-known-c
-    enum-known-c-2
-    enum-known-c-3
     enum-told-2
-    returns-5
-    returns-6
+    number-requires-2
+    returns-4
     add-used
     add-used-2
-    returns-7
-    add-t11
-    returns-8)
+    returns-5
+    add-t10
+    returns-6)

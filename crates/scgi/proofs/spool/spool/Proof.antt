@@ -6,12 +6,12 @@ use native.Mathlib.Omega.{arith}
 use lib.ListN.{length, drop, length-set}
 use borrow.Author.Needs.{needs}
 use Rattle.octets.proofs.Lists.{from}
-use Rattle.octets.specs.Outcome.{gives}
+use Rattle.octets.specs.Outcome.{refused, gives, refusalOf}
 use Rattle.scgi.proofs.SpoolWalks.{Standing, start, none-left, refusal, within, used-some, no-room, stored-one}
-use Rattle.scgi.proofs.spool.spool.Statement.{statement}
-use Rattle.scgi.proofs.spool.spool.Tie as tie
 use Rattle.scgi.specs.Read.{usedOf}
 use Rattle.scgi.specs.Spool.{usedOutcome}
+use Rattle.scgi.proofs.spool.spool.Statement.{statement}
+use Rattle.scgi.proofs.spool.spool.Tie as tie
 
 abbrev Inv-loop : tie.InvT-loop
 Inv-loop bytes lengths₀ i₀ n₀ lengths i n = (i ≤ length bytes) × (length lengths ≡ length lengths₀) × Standing bytes lengths₀ i n lengths
@@ -61,37 +61,30 @@ read-used-requires c κs = search needs
 enum-known-u : tie.Need-enum-known-u Inv-loop μ-loop
 enum-known-u c = search needs
 
-enum-known-u-2 : tie.Need-enum-known-u-2 Inv-loop μ-loop
-enum-known-u-2 c = search needs
-
-enum-known-u-3 : tie.Need-enum-known-u-3 Inv-loop μ-loop
-enum-known-u-3 c = search needs
-
 enum-told : tie.Need-enum-told Inv-loop μ-loop
 enum-told c = search needs
+
+number-requires : tie.Need-number-requires Inv-loop μ-loop
+number-requires c κs = search needs
+
+refusal-ending-requires : tie.Need-refusal-ending-requires Inv-loop μ-loop
+refusal-ending-requires c κs = search needs
 
 same-length : tie.Need-same-length Inv-loop μ-loop
 same-length c = search needs
 
 returns : tie.Need-returns Inv-loop μ-loop
-returns c = search needs
-
-refusal-ending-requires : tie.Need-refusal-ending-requires Inv-loop μ-loop
-refusal-ending-requires c κs = search needs
+returns c =
+    let t = c .before .before .before .before .before .before in
+    let e = c .before .before .enum-told .given .1 in
+    let k = c .before .number .ensures ∙ ap (λ u. refusalOf (usedOutcome u)) e in
+    refusal (t .before .loop .inv .2) (t .loop-test .taken) _ _ (says (c .before .before .before .before) ∙ ap usedOutcome e ∙ ap refused (sym k)) (c .refusal-ending .ensures)
 
 same-length-2 : tie.Need-same-length-2 Inv-loop μ-loop
 same-length-2 c = search needs
 
 returns-2 : tie.Need-returns-2 Inv-loop μ-loop
 returns-2 c =
-    let t = c .before .before .before .before .before .before .before .before .before in
-    refusal (t .before .loop .inv .2) (t .loop-test .taken) _ _ (says (c .before .before .before .before .before .before .before) ∙ ap usedOutcome (c .before .before .before .before .before .u2 .given .1 ∙ c .before .before .u3 .given .1)) (c .refusal-ending .ensures)
-
-same-length-3 : tie.Need-same-length-3 Inv-loop μ-loop
-same-length-3 c = search needs
-
-returns-3 : tie.Need-returns-3 Inv-loop μ-loop
-returns-3 c =
     let t = c .before .before .before .before .before .before in
     no-room (t .before .loop .inv .2) (t .loop-test .taken) _ (reads (c .before)) (omega arith)
 
@@ -118,11 +111,11 @@ loop-again c =
       stored-one (t .before .loop .inv .2) (t .loop-test .taken) _ (reads (c .before)) (omega arith),
     )
 
-same-length-4 : tie.Need-same-length-4 Inv-loop μ-loop
-same-length-4 c = search needs
+same-length-3 : tie.Need-same-length-3 Inv-loop μ-loop
+same-length-3 c = search needs
 
-returns-4 : tie.Need-returns-4 Inv-loop μ-loop
-returns-4 c = none-left (c .before .loop .inv .2) (c .loop-test .left)
+returns-3 : tie.Need-returns-3 Inv-loop μ-loop
+returns-3 c = none-left (c .before .loop .inv .2) (c .loop-test .left)
 
 pub spool-spec : {M : Type 1} → statement M
 spool-spec =
@@ -136,21 +129,18 @@ spool-spec =
     part-read-used-end
     read-used-requires
     enum-known-u
-    enum-known-u-2
-    enum-known-u-3
     enum-told
+    number-requires
+    refusal-ending-requires
     same-length
     returns
-    refusal-ending-requires
     same-length-2
     returns-2
-    same-length-3
-    returns-3
     mul-lengths
     slice-write-lengths
     add-n
     add-i
     loop-less
     loop-again
-    same-length-4
-    returns-4)
+    same-length-3
+    returns-3)
