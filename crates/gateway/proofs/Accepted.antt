@@ -7,7 +7,7 @@ use native.Mathlib.Omega.{arith}
 use lib.Dec.{ltb}
 use lib.ListN.{length, take, length-take}
 use Rattle.octets.specs.Text.{bytes}
-use Rattle.octets.specs.Outcome.{Outcome, gives, then}
+use Rattle.octets.specs.Outcome.{gives}
 use Rattle.octets.specs.Kinds.{isName, isValue}
 use Rattle.octets.specs.Scan.{allOf}
 use Rattle.octets.specs.Decimal.{plain}
@@ -15,28 +15,27 @@ use Rattle.octets.specs.Lists.{All, _&_, NoNul}
 use Rattle.octets.proofs.Bools.{and-right}
 use Rattle.octets.proofs.Alls.{all-implies, all-each, all-without, all-after}
 use Rattle.octets.proofs.Names.{test-different}
-use Rattle.headers.specs.Block.{Header, names, Among, here, later}
+use Rattle.headers.specs.Block.{names, here, later}
 use Rattle.scgi.specs.Grammar.{first, IsRequest}
 use Rattle.http.specs.Lines.{linesOf}
 use Rattle.http.specs.Fields.{Field}
-use Rattle.targets.specs.Target.{targetOf, queryOf}
+use Rattle.targets.specs.Target.{Target, targetOf, queryOf}
 use Rattle.http.proofs.Requests.{Reads, line-read, method-no-nul, served-no-nul}
 use Rattle.targets.proofs.TargetsAccepted.{Accepted, accepted, target-no-nul, query-no-nul, path-no-nul}
 use Rattle.http.proofs.FieldLines.{Clean, fields-clean}
 use Rattle.http.proofs.Places.{fields-few}
-use Rattle.lent.specs.Mounts.{Route, mountFor, routeOf}
+use Rattle.lent.specs.Mounts.{Mount, Route, mountFor, routeOf}
 use Rattle.lent.specs.Lent.{Lent}
-use Rattle.lent.specs.Claims.{ProperLent}
+use Rattle.lent.specs.Claims.{Among, here as first-mount, later as later-mount, ProperLent}
 use Rattle.lent.proofs.Claims.{mount-is-longest}
 use Rattle.variables.specs.Meaning.{Meaning, meaningOf}
 use Rattle.variables.specs.Variables.{fixed, variables}
-use Rattle.gateway.specs.Step.{bytesOf}
-use Rattle.gateway.specs.Step.{Forward, meaningAt, forwardOf}
+use Rattle.gateway.specs.Step.{bytesOf, Forward, meaningAt, forwardOf}
 use Rattle.variables.proofs.Proper.{ProperField, ProperMeaning, ProperRoute}
 use Rattle.variables.proofs.Variables.{variables-proper}
 use Rattle.variables.proofs.Names.{names-differ, variable-count}
 use Rattle.variables.proofs.Grouping.{Grouped, grouped-once, value-bytes-of}
-use Rattle.gateway.proofs.Links.{RequestLinks, request-links, BodyLinks, body-links, Links, links}
+use Rattle.gateway.proofs.Links.{RequestLinks, request-links, BodyLinks, body-links, WrittenLinks, Links, links}
 
 -- a field of a request
 field-proper : (f : Field) → Clean isName f → ProperField isName f
@@ -47,34 +46,33 @@ field-proper f c =
       value-bytes = all-without isValue 0 (f .value) refl (c .value);
     }
 
--- the route of a target is settled by the mounts
-abbrev pub routeFor : Lent → List ℕ → Outcome Route
-routeFor k t = then (targetOf t) (λ x. then (mountFor (k .mounts) (x .path)) (λ m. gives (routeOf m (x .path))))
-
--- what holds of the bytes w that are written for an accepted request
-pub record Account (k : Lent) (http w : List ℕ) : Type 0 where
+-- what holds of what is written for an accepted request: its bytes, and its pool
+pub record Account (k : Lent) (http : List ℕ) (f : Forward) : Type 0 where
   pub meaning : Meaning
-  pub route : Route
+  pub target : Target
+  pub mount : Mount
   pub means : meaningAt http ≡ gives meaning
-  pub routed : routeFor k (meaning .target) ≡ gives route
+  pub is-target : targetOf (meaning .target) ≡ gives target
+  pub wins : mountFor (k .mounts) (target .path) ≡ gives mount
+  pub pool : (f .poolStart ≡ mount .poolStart) × (f .poolLength ≡ mount .poolLength)
   pub proper : ProperMeaning meaning
-  pub request : IsRequest (variables (k .settings) route meaning) (meaning .body)
-  pub bytes : w ≡ bytesOf (k .settings) route meaning
+  pub request : IsRequest (variables (k .settings) (routeOf mount (target .path)) meaning) (meaning .body)
+  pub bytes : f .scgi ≡ bytesOf (k .settings) (routeOf mount (target .path)) meaning
 
 -- one of a list has what each has
-one-of : {P : Header → Type 0} {m : Header} {ms : List Header} → Among m ms → All P ms → P m
-one-of here (p & ps) = p
-one-of (later a) (p & ps) = one-of a ps
+pub one-of : {P : Mount → Type 0} {m : Mount} {ms : List Mount} → Among m ms → All P ms → P m
+one-of first-mount (p & ps) = p
+one-of (later-mount a) (p & ps) = one-of a ps
 
 module _ (k : Lent) (sound : ProperLent k) (http : List ℕ) (f : Forward) (l : Links k http f) where
   abbrev meaning : Meaning
   meaning = meaningOf (l .q .first) (l .q .fields) (l .b .body)
 
-  abbrev route : Route
-  route = routeOf (l .m) (l .q .path)
-
   r : RequestLinks (take (l .h - 4) http) (l .q)
   r = request-links (take (l .h - 4) http) (l .q) (l .request)
+
+  abbrev route : Route
+  route = routeOf (l .m) (r .target .path)
 
   body-is : BodyLinks http (l .h) (l .q .bodyLength) (l .b)
   body-is = body-links http (l .h) (l .q .bodyLength) (l .b) (l .body)
@@ -101,11 +99,12 @@ module _ (k : Lent) (sound : ProperLent k) (http : List ℕ) (f : Forward) (l : 
         fields = group .proper;
       }
 
-  path-bytes : NoNul (l .q .path)
-  path-bytes = rw (r .path) (path-no-nul (l .q .first .target) (r .target) target)
-
   route-proper : ProperRoute route
-  route-proper = record { scriptName = one-of (mount-is-longest .wins (k .mounts) (l .q .path) (l .m) (l .mount) .among) (sound .mounts) .name-bytes; pathInfo = all-after (length (l .m .name)) (l .q .path) path-bytes }
+  route-proper =
+      record {
+        scriptName = one-of (mount-is-longest .wins (k .mounts) (l .q .path) (l .m) (l .mount) .among) (sound .mounts);
+        pathInfo = all-after (length (l .m .name)) (r .target .path) (path-no-nul (l .q .first .target) (r .target) target);
+      }
 
   query : NoNul (queryOf (meaning .target))
   query = rw (← target .query-is) (query-no-nul (l .q .first .target) (r .target) target)
@@ -114,8 +113,12 @@ module _ (k : Lent) (sound : ProperLent k) (http : List ℕ) (f : Forward) (l : 
   unfolding meaningAt
   means = rw (l .head, l .request, l .body)
 
-  routed : routeFor k (meaning .target) ≡ gives route
-  routed = rw (r .target-read, ← r .path, l .mount)
+  wins : mountFor (k .mounts) (r .target .path) ≡ gives (l .m)
+  wins = rw (← r .path, l .mount)
+
+  -- the links speak of the path that was kept with the request
+  written : WrittenLinks (k .settings) (l .m) route meaning (l .b .used) f
+  written = rw (r .path) at (l .written)
 
   body-limit : length (meaning .body) ≤ 1048576
   body-limit = rw (body-is .is) (simp length-take (omega (arith, body-is .limit)))
@@ -131,22 +134,25 @@ module _ (k : Lent) (sound : ProperLent k) (http : List ℕ) (f : Forward) (l : 
         differ = test-different (names (variables (k .settings) route meaning)) (names-differ (k .settings) route meaning (group .proper) (group .names));
         states = first refl plain;
         scgi = later here;
-        block-limit = l .written .limit;
+        block-limit = written .limit;
         header-limit = count;
         body-limit = body-limit;
       }
 
-  pub account-at : Account k http (f .scgi)
+  pub account-at : Account k http f
   account-at =
       record {
         meaning = meaning;
-        route = route;
+        target = r .target;
+        mount = l .m;
         means = means;
-        routed = routed;
+        is-target = r .target-read;
+        wins = wins;
+        pool = written .pool;
         proper = proper;
         request = request;
-        bytes = l .written .scgi;
+        bytes = written .scgi;
       }
 
-pub account : (k : Lent) → ProperLent k → (http : List ℕ) (f : Forward) → forwardOf (gives k) http ≡ gives f → Account k http (f .scgi)
+pub account : (k : Lent) → ProperLent k → (http : List ℕ) (f : Forward) → forwardOf (gives k) http ≡ gives f → Account k http f
 account k sound http f e = account-at k sound http f (links k http f e)

@@ -16,14 +16,14 @@ use Rattle.http.specs.Fields.{Field}
 use Rattle.http.proofs.Numbers.{head-numbers, line-numbers, field-numbers}
 use Rattle.targets.proofs.Numbers.{target-numbers}
 use Rattle.lent.specs.Settings.{Settings}
-use Rattle.lent.specs.Mounts.{Route, mountOf, routeOf}
+use Rattle.lent.specs.Mounts.{Mount, Route, mountOf, routeOf}
 use Rattle.lent.specs.Lent.{Lent, lentOf}
 use Rattle.lent.proofs.Claims.{lent-number}
 use Rattle.request.specs.Named.{lowered, valuesOf}
 use Rattle.variables.specs.Meaning.{Meaning, meaningOf}
 use Rattle.variables.specs.Variables.{variables}
 use Rattle.request.specs.Request.{hostRight, statedBy, contentOf, rulesOf, requestOf}
-use Rattle.gateway.specs.Step.{bodyOf, poolOf, writtenFor, forwardOf, stepWith}
+use Rattle.gateway.specs.Step.{bodyOf, writtenFor, forwardOf, stepWith}
 use Rattle.gateway.specs.Claims.{stepNumbers, NumbersHold}
 
 stated-numbers : (vs : List (List ℕ)) → Refuses stepNumbers (statedBy vs)
@@ -56,9 +56,9 @@ body-numbers : (http : List ℕ) (h n : ℕ) → Refuses stepNumbers (bodyOf htt
 unfolding bodyOf
 body-numbers http h n = refuses-need (leb n 1048576) 9 refl (refuses-need (leb (h + n) (length http)) 1 refl not-refused)
 
-written-numbers : (s : Settings) (r : Route) (m : Meaning) (pool : List ℕ) (used : ℕ) → Refuses stepNumbers (writtenFor s r m pool used)
+written-numbers : (s : Settings) (k : Mount) (r : Route) (m : Meaning) (used : ℕ) → Refuses stepNumbers (writtenFor s k r m used)
 unfolding writtenFor
-written-numbers s r m pool used = refuses-need (leb (length (printed (variables s r m))) 16384) 22 refl not-refused
+written-numbers s k r m used = refuses-need (leb (length (printed (variables s r m))) 16384) 22 refl not-refused
 
 lent-numbers : (facts site mounts : List ℕ) → Refuses stepNumbers (lentOf facts site mounts)
 lent-numbers facts site mounts = by (lentOf facts site mounts) refl
@@ -75,7 +75,7 @@ forward-numbers lent number http =
     (λ h. refuses-then (request-numbers (take (h - 4) http))
     (λ q. refuses-then (refuses-given (mountOf (k .mounts) (q .path)) 19 refl)
     (λ m. refuses-then (body-numbers http h (q .bodyLength))
-    (λ b. written-numbers (k .settings) (routeOf m (q .path)) (meaningOf (q .first) (q .fields) (b .body)) (poolOf m) (b .used))))))
+    (λ b. written-numbers (k .settings) m (routeOf m (q .path)) (meaningOf (q .first) (q .fields) (b .body)) (b .used))))))
 
 pub numbers-hold : NumbersHold
 unfolding stepWith

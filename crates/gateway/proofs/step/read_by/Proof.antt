@@ -5,7 +5,7 @@ use mathlib.Core.Path.{sym, _∙_}
 use native.Mathlib.Omega.{arith}
 use lib.ListN.{length, length-take}
 use lib.Seq.{length-take-le}
-use Rattle.headers.specs.Block.{parsed}
+use Rattle.lent.specs.Mounts.{mountsAt}
 use Rattle.lent.specs.Places.{settingsAt}
 use Rattle.gateway.specs.Stepping.{headFrom, roomFor}
 use Rattle.gateway.proofs.StepParts.{left-alone, head-refused, head-read}
@@ -52,8 +52,8 @@ same-length-2 c = search needs
 returns-2 : tie.Need-returns-2
 returns-2 c =
     let a = c .before .before .before .before .before .before .before .before .before .before .before .before .before .before .before .before .before .before .before .before .before .args in
-    left-alone (roomFor (length (a .out .now)) (headFrom (settingsAt (a .facts .now) (a .site .now) (a .settings)) (parsed (a .mounts .now)) (a .http .now) (a .head-len))) (a .mounts .now) (a .out .now) _
-    (head-refused (settingsAt (a .facts .now) (a .site .now) (a .settings)) (parsed (a .mounts .now)) (a .http .now) (a .head-len) (length (a .out .now)) _ ((rw (c .before .before .before .before .q2 .given .1 ∙ c .before .q3 .given .1) at (c .before .before .before .before .before .before .before .before .before .read-request .ensures)) .answer))
+    left-alone (roomFor (length (a .out .now)) (headFrom (settingsAt (a .facts .now) (a .site .now) (a .settings)) (mountsAt (a .mounts .now)) (a .http .now) (a .head-len))) (a .out .now) _
+    (head-refused (settingsAt (a .facts .now) (a .site .now) (a .settings)) (mountsAt (a .mounts .now)) (a .http .now) (a .head-len) (length (a .out .now)) _ ((rw (c .before .before .before .before .q2 .given .1 ∙ c .before .q3 .given .1) at (c .before .before .before .before .before .before .before .before .before .read-request .ensures)) .answer))
 
 slice-aggregate-forward : tie.Need-slice-aggregate-forward
 slice-aggregate-forward c = search needs
@@ -72,7 +72,7 @@ same-length-4 c = search needs
 returns-3 : tie.Need-returns-3
 returns-3 c =
     let a = c .before .before .before .before .before .before .before .before .before .before .before .before .before .before .before .before .before .before .before .before .before .before .before .before .args in
-    rw (head-read (settingsAt (a .facts .now) (a .site .now) (a .settings)) (parsed (a .mounts .now)) (a .http .now) (a .head-len) (length (a .out .now)) _ ((rw (c .before .before .before .before .before .before .before .q .given .1) at (c .before .before .before .before .before .before .before .before .before .before .before .before .read-request .ensures)) .answer)) (c .before .before .forward .ensures)
+    rw (head-read (settingsAt (a .facts .now) (a .site .now) (a .settings)) (mountsAt (a .mounts .now)) (a .http .now) (a .head-len) (length (a .out .now)) _ ((rw (c .before .before .before .before .before .before .before .q .given .1) at (c .before .before .before .before .before .before .before .before .before .before .before .before .read-request .ensures)) .answer)) (c .before .before .forward .ensures)
 
 pub read-by-spec : {M : Type 1} → statement M
 read-by-spec =
