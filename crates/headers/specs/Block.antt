@@ -82,7 +82,8 @@ pub record Ends : Type 0 where
 unfoldable pub headerEnds : List ℕ → ℕ → Outcome Ends
 headerEnds b i =
     need (not (eqb (nulFrom b i) i) && ltb (nulFrom b i) (length b)) 5
-    (need (ltb (nulFrom b (nulFrom b i + 1)) (length b)) 5 (gives (record { nameEnd = nulFrom b i; valueEnd = nulFrom b (nulFrom b i + 1) })))
+    (need (ltb (nulFrom b (nulFrom b i + 1)) (length b)) 5
+    (gives (record { nameEnd = nulFrom b i; valueEnd = nulFrom b (nulFrom b i + 1) })))
 
 -- what the code's answer says
 abbrev pub headerOutcome : HeaderPlace → Outcome Ends

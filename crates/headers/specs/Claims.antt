@@ -44,8 +44,8 @@ pub record PrintedParsed : Type 0 where
   pub back : (hs : List Header) → All Proper hs → parsed (printed hs) ≡ gives hs
   pub bytes : (block : List ℕ) (hs : List Header) → parsed block ≡ gives hs → printed hs ≡ block
 
--- the header that is found at a place is the first of those which the block has from there on, with the rest behind it; where none is found, the
--- block from there on is malformed
+-- the header that is found at a place is the first of those that the block has from there on; where none is found, the block from there on is
+-- malformed
 abbrev pub HeaderParses : Type 0
 HeaderParses = (block : List ℕ) (i : ℕ) → i < length block → HeaderFound block i (headerEnds block i)
 

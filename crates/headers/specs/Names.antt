@@ -20,8 +20,8 @@ namePlaces i (h ∷ hs) = i ∷ (length (h .name) ∷ namePlaces (i + length (h 
 abbrev pub withPair : List ℕ → ℕ → ℕ → ℕ → List ℕ
 withPair d n start len = cond (ltb n (length d / 2)) (set (set d (2 * n) start) (2 * n + 1) len) d
 
--- the answer is the count of headers, or 5; the list has the numbers of as many as it has room for, over its front. Of a malformed block it may
--- have any
+-- the answer is the count of headers, or 5; of a well formed block the list has the numbers of as many headers as it has room for, over its
+-- front, and of a malformed one it may have any
 pub record NamesFound (b before after : List ℕ) (r : Count) : Type 0 where
   pub count : countOutcome r ≡ countOf b
   pub size : length after ≡ length before

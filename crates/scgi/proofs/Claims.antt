@@ -1,11 +1,12 @@
 -- Each claim of specs/Claims.antt, proved. Crates above cite this file and no other of this folder.
 -- Assumes nothing.
-use Rattle.scgi.specs.Claims.{MoreBytesKeepAnswer, UsedWithin, CutGivesOne, SpoolsHold, AcceptsExactly, RequestOnce, WritesExactly, RoomIsLast, WriteThenRead, ReadThenWrite, NumbersHold, LargestRequest}
+use Rattle.scgi.specs.Claims.{MoreBytesKeepAnswer, UsedWithin, CutGivesOne, SpoolsHold, AcceptsExactly, RequestOnce, WritesExactly, RoomIsLast, WriteThenRead, ReadThenWrite, NumbersHold, LargestRequest, WindowReadsAll}
 use Rattle.scgi.proofs.Reader as Reader
 use Rattle.scgi.proofs.Requests as Requests
 use Rattle.scgi.proofs.Writer as Writer
 use Rattle.scgi.proofs.Numbers as Numbers
 use Rattle.scgi.proofs.Limits as Limits
+use Rattle.scgi.proofs.Windows as Windows
 
 pub more-bytes-keep-answer : MoreBytesKeepAnswer
 more-bytes-keep-answer = Reader.more-bytes-keep-answer
@@ -42,3 +43,6 @@ numbers-hold = Numbers.numbers-hold
 
 pub largest-request : LargestRequest
 largest-request = Limits.largest-request
+
+pub window-reads-all : WindowReadsAll
+window-reads-all = Windows.window-reads-all

@@ -9,5 +9,6 @@ pub mod WriteSteps
 pub mod SpoolWalks
 pub mod Numbers
 pub mod Limits
+pub mod Windows
 pub mod Worked
 pub mod Claims

@@ -10,11 +10,13 @@ use lib.ListN.{length, take}
 use Rattle.octets.specs.Outcome.{refused, gives, then}
 use Rattle.octets.specs.Kinds.{oneOf}
 use Rattle.octets.specs.Decimal.{decimal}
+use Rattle.framing.specs.Spool.{joined}
 use Rattle.framing.specs.Claims.{Frames, SpoolsEqual, SpoolCut, SpoolGoesOn}
 use Rattle.headers.specs.Block.{Header, printed}
 use Rattle.scgi.specs.Grammar.{netstring, encoded, IsRequest}
 use Rattle.scgi.specs.Read.{Places, readOf, usedOf, blockIn, bodyIn}
-use Rattle.scgi.specs.Window.{largest}
+use Rattle.scgi.specs.Spool.{requestsOf}
+use Rattle.scgi.specs.Window.{largest, throughWindow}
 use Rattle.scgi.specs.Write.{toWrite, inRoom, writeOf}
 
 -- more bytes change no answer but 1: "Bytes after the body are not looked at"
@@ -40,6 +42,13 @@ pub record SpoolsHold : Type 0 where
 -- bytes that are taken for a cut request are fewer than the largest request has
 abbrev pub LargestRequest : Type 0
 LargestRequest = (s : List ℕ) → readOf s ≡ refused 1 → length s < largest
+
+-- reading a spool through the window, however the reads cut it and whatever room a turn has, gives what the spool call gives over the whole
+-- input with room for all its requests, each of a byte or more. Turns for each byte, each read and two more are enough
+abbrev pub WindowReadsAll : Type 0
+WindowReadsAll =
+    (reads : List (List ℕ)) (k room n : ℕ) → 0 < room → length (joined reads) + length reads + 2 ≤ k → length (joined reads) ≤ n
+    → throughWindow k room reads ≡ requestsOf (joined reads) n
 
 -- where headers and body stand in their bytes; the used count "is the length of the request read"
 abbrev pub placesOf : List Header → List ℕ → Places

@@ -1,12 +1,12 @@
 -- A spool of any length, read through a window that holds some of its bytes.
 -- Assumes nothing.
-use Prim.Native.Nat.{ℕ, _-_, _≤_, _<_}
+use Prim.Native.Nat.{ℕ, zero, suc, _-_, _≤_, _<_}
 use mathlib.Core.Path.{_≡_}
-use mathlib.Core.Bool.{Bool, cond}
-use mathlib.Core.List.{List}
-use lib.ListN.{length}
+use mathlib.Core.Bool.{Bool, true, false, cond}
+use mathlib.Core.List.{List, [], _∷_, _++_}
+use lib.ListN.{length, drop}
 use Rattle.octets.specs.Copy.{over}
-use Rattle.framing.specs.Spool.{Ending, whole, cut, refusedBy, full, total}
+use Rattle.framing.specs.Spool.{Ending, whole, cut, refusedBy, full, Spool, ended, behind, total}
 use Rattle.scgi.specs.Spool.{requestsOf}
 use Rattle.scgi.specs.declared.window.Next.{Next}
 use Rattle.scgi.specs.declared.window.Next.the-variants.{More, Again, Whole, Cut, Refused}
@@ -33,3 +33,34 @@ pub record TurnDone (held : List ℕ) (atEnd : Bool) (before after : List ℕ) (
   pub few : r .count ≤ length before
   pub inside : r .taken ≤ length held
   pub room : r .next ≡ More → length held - r .taken < largest
+
+-- What the program does turn by turn, for the claim that the cuts between its reads don't matter. Between two turns it knows whether the input
+-- has ended, holds bytes, and has reads to come, each of a byte or more: a read of none says that the input has ended.
+abbrev pub Turns : Type 0
+Turns = Bool → List ℕ → List (List ℕ) → Spool
+
+-- where a turn asks for more: the next read goes behind the bytes that are left; where there is none, the input has ended
+abbrev pub readMore : Turns → List ℕ → List (List ℕ) → Spool
+readMore turns left [] = turns true left []
+readMore turns left (r ∷ reads) = turns false (left ++ r) reads
+
+-- what is done after a turn
+abbrev pub afterTurn : Turns → Bool → List ℕ → List (List ℕ) → Next → Spool
+afterTurn turns atEnd left reads More = readMore turns left reads
+afterTurn turns atEnd left reads Again = turns atEnd left reads
+afterTurn turns atEnd left reads Whole = ended whole
+afterTurn turns atEnd left reads Cut = ended cut
+afterTurn turns atEnd left reads (Refused n) = ended (refusedBy n)
+
+-- k turns at most, each with an empty list that has room for so many lengths: a turn's lengths stand before those of the turns after it, which
+-- go on with the bytes that it did not take
+unfoldable pub turnsIn : ℕ → ℕ → Turns
+turnsIn zero room atEnd held reads = ended full
+turnsIn (suc k) room atEnd held reads =
+    behind (requestsOf held room .lengths)
+    (afterTurn (turnsIn k room) atEnd (drop (total (requestsOf held room .lengths)) held) reads
+    (nextOf atEnd (requestsOf held room .ending)))
+
+-- nothing is held before the first turn
+abbrev pub throughWindow : ℕ → ℕ → List (List ℕ) → Spool
+throughWindow k room reads = turnsIn k room false [] reads

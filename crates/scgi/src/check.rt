@@ -35,8 +35,8 @@ impl Stated {
     }
 }
 
-// The body length that the first header of a well formed block states. Whatever is amiss with that header, no header too, is 8: "first header
-// is not CONTENT_LENGTH with one or more digits".
+// The body length that the first header of a well formed block states. Whatever is amiss with it, no header too, is 8: "first header is not
+// CONTENT_LENGTH with one or more digits".
 fn stated_length(block: &[u8]) -> Stated
     requires { ⌜ wellFormed (now block) ≡ true ⌝ }
     ensures { λ r. ⌜ statedOutcome r ≡ statedIn (now (block .entry)) ⌝ }
@@ -112,7 +112,8 @@ fn check_rest(block: &[u8]) -> Checked
     Checked::Body(len as usize)
 }
 
-// Whether a block of n headers, of any number, is that of a request. Its names are walked again, with room for as many as a request may have.
+// Whether a block of n headers, of any number, is that of a request. It is walked again for its names, with room for as many as a request may
+// have.
 fn check_large(block: &[u8], n: usize) -> Checked
     requires { ⌜ countOf (now block) ≡ gives n ⌝ }
     ensures { λ r. ⌜ checkedOutcome r ≡ checkBlock (now (block .entry)) ⌝ }

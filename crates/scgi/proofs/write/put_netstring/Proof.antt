@@ -17,13 +17,22 @@ put-requires : tie.Need-put-requires
 put-requires c κs = omega (arith, c .before .before .before .before .before .before .before .before .pre, netstring-length (c .before .before .before .before .before .before .before .before .args .block .now), c .before .before .before .before .write .ensures .ends)
 
 put-requires-2 : tie.Need-put-requires-2
-put-requires-2 c κs = omega (arith, c .before .before .before .before .before .before .before .before .before .before .before .before .pre, netstring-length (c .before .before .before .before .before .before .before .before .before .before .before .before .args .block .now), c .before .before .before .before .before .before .before .before .write .ensures .ends, c .before .before .before .put .ensures .ends)
+put-requires-2 c κs =
+    let p = c .before .before .before in
+    let w = p .before .before .before .before .before in
+    let s = w .before .before .before .before in
+    omega (arith, s .pre, netstring-length (s .args .block .now), w .write .ensures .ends, p .put .ensures .ends)
 
 slice-aggregate-put-2 : tie.Need-slice-aggregate-put-2
 slice-aggregate-put-2 c = search needs
 
 put-requires-3 : tie.Need-put-requires-3
-put-requires-3 c κs = omega (arith, c .before .before .before .before .before .before .before .before .before .before .before .before .before .before .before .before .before .pre, netstring-length (c .before .before .before .before .before .before .before .before .before .before .before .before .before .before .before .before .before .args .block .now), c .before .before .before .before .before .before .before .before .before .before .before .before .before .write .ensures .ends, c .before .before .before .before .before .before .before .before .put .ensures .ends, c .before .before .before .before .put2 .ensures .ends)
+put-requires-3 c κs =
+    let q = c .before .before .before .before in
+    let p = q .before .before .before .before in
+    let w = p .before .before .before .before .before in
+    let s = w .before .before .before .before in
+    omega (arith, s .pre, netstring-length (s .args .block .now), w .write .ensures .ends, p .put .ensures .ends, q .put2 .ensures .ends)
 
 same-length : tie.Need-same-length
 same-length c = search needs

@@ -39,7 +39,10 @@ returns-2 c =
     (block-refused (a .block .now) (a .body .now) (a .out .now) (k .before .if1 .left) _ (sym (k .check-block .ensures) ∙ ap checkedOutcome e)))
 
 returns-3 : tie.Need-returns-3
-returns-3 c = left-alone (c .before .before .before .before .before .before .before .before .before .args .block .now) (c .before .before .before .before .before .before .before .before .before .args .body .now) (c .before .before .before .before .before .before .before .before .before .args .out .now) _ (other-length (c .before .before .before .before .before .before .before .before .before .args .block .now) (c .before .before .before .before .before .before .before .before .before .args .body .now) (c .before .before .before .before .before .before .before .before .before .args .out .now) (c .before .before .before .before .before .if1 .left) _ (got (c .before)) (c .if2 .taken))
+returns-3 c =
+    let k = c .before .before .before .before in
+    let a = k .before .before .before .before .before .args in
+    left-alone (a .block .now) (a .body .now) (a .out .now) _ (other-length (a .block .now) (a .body .now) (a .out .now) (k .before .if1 .left) _ (got (c .before)) (c .if2 .taken))
 
 write-parts-requires : tie.Need-write-parts-requires
 write-parts-requires c κs = (omega (arith, c .before .before .before .before .before .before .if1 .left), omega (arith, check-bound _ _ (got (c .before .before)), c .before .if2 .left))
@@ -48,7 +51,11 @@ same-length : tie.Need-same-length
 same-length c = search needs
 
 returns-4 : tie.Need-returns-4
-returns-4 c = rw (only-room (c .before .before .before .before .before .before .before .before .before .before .before .before .before .args .block .now) (c .before .before .before .before .before .before .before .before .before .before .before .before .before .args .body .now) (c .before .before .before .before .before .before .before .before .before .before .before .before .before .args .out .now) (c .before .before .before .before .before .before .before .before .before .if1 .left) _ (got (c .before .before .before .before .before)) (c .before .before .before .before .if2 .left)) (c .before .before .write-parts .ensures)
+returns-4 c =
+    let i = c .before .before .before .before in
+    let k = i .before .before .before .before in
+    let a = k .before .before .before .before .before .args in
+    rw (only-room (a .block .now) (a .body .now) (a .out .now) (k .before .if1 .left) _ (got (i .before)) (i .if2 .left)) (c .before .before .write-parts .ensures)
 
 pub write-spec : {M : Type 1} → statement M
 write-spec =

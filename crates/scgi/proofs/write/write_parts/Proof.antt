@@ -50,9 +50,11 @@ same-length c = search needs
 
 returns-2 : tie.Need-returns-2
 returns-2 c =
-    let f = c .before .before .before .before .before .before .before .before in
-    has-room (netstring (c .before .before .before .before .before .before .before .before .before .before .before .before .before .args .block .now) ++ c .before .before .before .before .before .before .before .before .before .before .before .before .before .args .body .now) (c .before .before .before .before .before .before .before .before .before .before .before .before .before .args .out .now) _ _ (room f)
-    (and-then (c .before .before .before .before .before .before .put-netstring .ensures) (omega (arith, room f, length-append (netstring (c .before .before .before .before .before .before .before .before .before .before .before .before .before .args .block .now)) (c .before .before .before .before .before .before .before .before .before .before .before .before .before .args .body .now))) _ _ _ (c .before .before .put-large .ensures))
+    let n = c .before .before .before .before .before .before in
+    let f = n .before .before in
+    let a = f .before .before .before .before .before .args in
+    has-room (netstring (a .block .now) ++ a .body .now) (a .out .now) _ _ (room f)
+    (and-then (n .put-netstring .ensures) (omega (arith, room f, length-append (netstring (a .block .now)) (a .body .now))) _ _ _ (c .before .before .put-large .ensures))
 
 pub write-parts-spec : {M : Type 1} → statement M
 write-parts-spec =
