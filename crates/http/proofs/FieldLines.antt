@@ -7,18 +7,20 @@ use mathlib.Core.Option.{Option, none, some}
 use Prim.Native.Nat.{ℕ, zero, suc, _+_, _≤_, _<_}
 use native.Mathlib.Omega.{arith}
 use lib.Dec.{leb, ltb, eqb}
-use lib.ListN.{length, take, drop, length-take}
-use lib.Seq.{drop-drop}
-use borrow.Author.Tests.{eqb-true, lt-ltb, le-ltb, le-leb, lt-leb}
+use lib.ListN.{length, take, drop, length-take, length-drop}
+use lib.Seq.{drop-drop, length-take-le}
+use borrow.Author.Tests.{eqb-true, lt-ltb, le-ltb, le-leb, lt-leb, ltb-true}
 use Rattle.octets.specs.Lists.{All, no-more, _&_}
 use Rattle.octets.specs.Outcome.{gives}
 use Rattle.octets.proofs.Outcomes.{given-gives}
 use Rattle.octets.specs.Kinds.{isDigit, isLetter, isToken, isName, isBlank, isValue}
 use Rattle.octets.specs.Scan.{run, allOf, other}
 use Rattle.octets.specs.Trim.{kept, trimmed, trimmedEnd}
-use Rattle.octets.proofs.Scans.{all-take}
+use Rattle.octets.proofs.Alls.{all-without}
+use Rattle.octets.proofs.Scans.{run-within, all-take}
 use Rattle.octets.proofs.Trims.{kept-le}
-use Rattle.http.specs.Fields.{Field, isFieldName, fieldWith, fieldOf, ahead, eachField, fieldsIn, fieldsOf}
+use Rattle.http.specs.Fields.{Field, isFieldName, fieldWith, fieldOf, ahead, eachField, fieldsIn, fieldsOf, nameLength, valueStart, valueLength, numbersOf}
+use Rattle.http.specs.Claims.{Clean, FieldStands}
 
 -- the first colon stands at n
 module _ (rule : ℕ → Bool) (line : List ℕ) (n : ℕ) (colon : n ≡ 0 + run (other 58) (drop 0 line)) where
@@ -54,13 +56,21 @@ module _ (rule : ℕ → Bool) (line : List ℕ) (n : ℕ) (colon : n ≡ 0 + ru
       pub bad-value : (e : ℕ) → e ≡ v + run isValue (drop v line) → e < v + k → fieldOf rule line ≡ none
       bad-value e q h = at-colon ∙ simp (value-is, value-test, lt-leb k (run isValue (drop v line)) (omega arith), and-false)
 
-      pub whole :
+      there :
           (n ≡ 0 → ⊥) → n ≤ 0 + run rule (drop 0 line) → v + k ≤ v + run isValue (drop v line)
           → fieldOf rule line ≡ some (record { name = take n line; value = take k (drop v line) })
-      whole z a b =
+      there z a b =
           let m : 0 < length (take n line) = simp length-take (omega arith) in
           at-colon
           ∙ simp (value-is, value-test, name-test, lt-ltb n (length line) l, lt-ltb 0 (length (take n line)) m, le-leb n (run rule line) (omega arith), le-leb k (run isValue (drop v line)) (omega arith))
+
+      pub whole :
+          (n ≡ 0 → ⊥) → n ≤ 0 + run rule (drop 0 line) → v + k ≤ v + run isValue (drop v line)
+          → numbersOf rule line ≡ some (record { name = n; value = v; len = k })
+      whole z a b =
+          let e : nameLength line ≡ n = omega arith in
+          let y : length (take k (drop v line)) ≡ k = length-take-le k (drop v line) (omega (arith, kept-le (drop v line))) in
+          rw (there z a b, e, value-is, y, ← start)
 
 -- "A line that begins with space or tab is refused"
 first-byte : (rule : ℕ → Bool) (b : ℕ) (s : List ℕ) (n : ℕ) → rule b ≡ false → fieldWith rule (b ∷ s) n ≡ none
@@ -86,27 +96,64 @@ module _ (b : ℕ) (s : List ℕ) (blank : isBlank b ≡ true) where
   unfolding fieldOf isName
   blank-first-name = first-byte isName b s (run (other 58) (b ∷ s)) (rw (blank-token b blank))
 
--- FOR CALLERS: the bytes of a field's name and value
-pub record Clean (rule : ℕ → Bool) (f : Field) : Type 0 where
-  pub name : isFieldName rule (f .name) ≡ true
-  pub value : allOf isValue (f .value) ≡ true
+-- THE FIELD OF A LINE: the tests that it passed
 
-pub field-clean : (rule : ℕ → Bool) (line : List ℕ) (f : Field) → fieldOf rule line ≡ some f → Clean rule f
-unfolding fieldOf
-field-clean rule line f = with-colon (run (other 58) line)
+record Passes (rule : ℕ → Bool) (line : List ℕ) (n : ℕ) (f : Field) : Type 0 where
+  is : f ≡ record { name = take n line; value = trimmed (drop (n + 1) line) }
+  colon : n < length line
+  name : isFieldName rule (take n line) ≡ true
+  value : allOf isValue (trimmed (drop (n + 1) line)) ≡ true
+
+passes : (rule : ℕ → Bool) (line : List ℕ) (n : ℕ) (f : Field) → fieldWith rule line n ≡ some f → Passes rule line n f
+passes rule line n f = by (ltb n (length line)) (isFieldName rule (take n line)) (allOf isValue (trimmed (drop (n + 1) line))) refl refl refl
   where
-    with-colon : (n : ℕ) → fieldWith rule line n ≡ some f → Clean rule f
-    with-colon n = by (ltb n (length line)) (isFieldName rule (take n line)) (allOf isValue (trimmed (drop (n + 1) line))) refl refl
-      where
-        by :
-            (a b c : Bool) → isFieldName rule (take n line) ≡ b → allOf isValue (trimmed (drop (n + 1) line)) ≡ c
-            → cond (a && b && c) (some (record { name = take n line; value = trimmed (drop (n + 1) line) })) none ≡ some f → Clean rule f
-        by true true true p q e =
-            let z : f ≡ record { name = take n line; value = trimmed (drop (n + 1) line) } = cc in
-            rw z (record { name = p; value = q })
-        by true true false p q e = absurd (let z : _≡_ {A = ℕ} 0 1 = cc in omega arith)
-        by true false c p q e = absurd (let z : _≡_ {A = ℕ} 0 1 = cc in omega arith)
-        by false b c p q e = absurd (let z : _≡_ {A = ℕ} 0 1 = cc in omega arith)
+    by :
+        (a b c : Bool) → ltb n (length line) ≡ a → isFieldName rule (take n line) ≡ b → allOf isValue (trimmed (drop (n + 1) line)) ≡ c
+        → cond (a && b && c) (some (record { name = take n line; value = trimmed (drop (n + 1) line) })) none ≡ some f → Passes rule line n f
+    by true true true l p q e = record { is = cc; colon = ltb-true n (length line) l; name = p; value = q }
+    by true true false l p q e = absurd (let z : _≡_ {A = ℕ} 0 1 = cc in omega arith)
+    by true false c l p q e = absurd (let z : _≡_ {A = ℕ} 0 1 = cc in omega arith)
+    by false b c l p q e = absurd (let z : _≡_ {A = ℕ} 0 1 = cc in omega arith)
+
+module _ (rule : ℕ → Bool) (line : List ℕ) (f : Field) (e : fieldOf rule line ≡ some f) where
+  passed : Passes rule line (nameLength line) f
+  unfolding fieldOf
+  passed = passes rule line (nameLength line) f e
+
+  field-clean : Clean rule f
+  unfolding isValue
+  field-clean =
+      rw (passed .is)
+      (record { name = passed .name; value = passed .value; value-no-nul = all-without isValue 0 (trimmed (drop (nameLength line + 1) line)) refl (passed .value) })
+
+  abbrev behind : List ℕ
+  behind = drop (nameLength line + 1) line
+
+  rest-is : drop (run isBlank behind) behind ≡ drop (valueStart line) line
+  rest-is = drop-drop (run isBlank behind) (nameLength line + 1) line
+
+  value-kept : trimmed behind ≡ trimmedEnd (drop (valueStart line) line)
+  value-kept = ap trimmedEnd rest-is
+
+  value-length : valueLength line ≡ kept (drop (valueStart line) line)
+  value-length =
+      ap length value-kept
+      ∙ length-take-le (kept (drop (valueStart line) line)) (drop (valueStart line) line) (kept-le (drop (valueStart line) line))
+
+  -- its name and its value stand where they are said to
+  pub field-stands : FieldStands line f
+  field-stands =
+      let c : nameLength line < length line = passed .colon in
+      let s : valueStart line ≤ length line = run-within isBlank line (nameLength line + 1) (omega arith) in
+      record {
+        name = ap (λ (g : Field). g .name) (passed .is);
+        value =
+            ap (λ (g : Field). g .value) (passed .is) ∙ value-kept ∙ ap (λ (k : ℕ). take k (drop (valueStart line) line)) (sym value-length);
+        colon-inside = omega arith;
+        value-inside = omega (arith, value-length, kept-le (drop (valueStart line) line), length-drop (valueStart line) line);
+      }
+
+-- FIELDS OF LINES
 
 each-clean : (rule : ℕ → Bool) (ls : List (List ℕ)) (fs : List Field) → eachField rule ls ≡ some fs → All (Clean rule) fs
 unfolding eachField

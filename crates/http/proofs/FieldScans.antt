@@ -3,7 +3,7 @@
 use mathlib.Core.Path.{_≡_, refl, sym, ap, _∙_}
 use mathlib.Core.Bool.{Bool, true, false, cond, not, _&&_, _||_, and-false}
 use mathlib.Core.List.{List, [], _∷_}
-use mathlib.Core.Option.{none, some}
+use mathlib.Core.Option.{Option, none, some}
 use Prim.Native.Nat.{ℕ, zero, suc, _+_, _-_, _≤_, _<_}
 use native.Mathlib.Nat.{le-refl}
 use native.Mathlib.Omega.{arith}
@@ -17,7 +17,8 @@ use Rattle.octets.specs.Trim.{kept, trimmed, trimmedEnd}
 use Rattle.octets.proofs.Scans.{run-within, all-take}
 use Rattle.octets.proofs.Trims.{kept-take}
 use Rattle.http.specs.Lines.{endsLine, linesOf, lineRun}
-use Rattle.http.specs.Fields.{isFieldName, fieldWith, fieldOf, FieldStands}
+use Rattle.http.specs.Fields.{Field, isFieldName, fieldWith, fieldOf, nameLength, valueStart, valueLength, placeIf, placeOf}
+use Rattle.http.specs.declared.fields.FieldPlace.the-variants.{At, Malformed}
 use Rattle.http.proofs.FieldLines.{no-colon, bad-name}
 use Rattle.http.proofs.LineCuts.{passes-other, ends-at, line-more, line-le, run-line, line-on, first-line}
 
@@ -179,12 +180,30 @@ module _ (s : List ℕ) where
         let e : endsLine (drop n s) ≡ false = ends-at s n ∙ rw q in
         omega (arith, line-on isName name-cr s 0 n (omega arith), line-more s n i e)
 
-    at-colon : fieldOf isName line ≡ fieldWith isName line n
-    unfolding fieldOf
-    at-colon =
+    name-length : nameLength line ≡ n
+    name-length =
         let j : run isName line < length line = omega (arith, name-run, line-length, line-past) in
         let c : getD line (run isName line) 0 ≡ 58 = rw name-run (getD-take (lineRun s) s n 0 (omega (arith, line-past)) ∙ q) in
-        ap (fieldWith isName line) (run-first isName 58 name-colon line j c ∙ name-run)
+        run-first isName 58 name-colon line j c ∙ name-run
+
+    at-colon : fieldOf isName line ≡ fieldWith isName line n
+    unfolding fieldOf
+    at-colon = ap (fieldWith isName line) name-length
+
+    after-name : drop (n + 1) line ≡ take (lineRun rest) rest
+    after-name =
+        let m : lineRun s - (n + 1) ≡ lineRun rest = omega (arith, line-past) in
+        drop-take (n + 1) (lineRun s) s (omega (arith, line-past)) (omega arith) ∙ ap (λ (k : ℕ). take k rest) m
+
+    value-start : valueStart line ≡ n + 1 + run isBlank rest
+    unfolding isBlank
+    value-start =
+        ap (λ (m : ℕ). m + 1 + run isBlank (drop (m + 1) line)) name-length
+        ∙ ap (λ (t : List ℕ). n + 1 + run isBlank t) after-name
+        ∙ ap (λ (m : ℕ). n + 1 + m) (run-take isBlank rest (lineRun rest) (run-line isBlank refl rest))
+
+    value-length : valueLength line ≡ length (trimmed (take (lineRun rest) rest))
+    value-length = ap (λ (m : ℕ). length (trimmed (drop (m + 1) line))) name-length ∙ ap (λ (t : List ℕ). length (trimmed t)) after-name
 
     empty-name : n ≡ 0 → fieldOf isName line ≡ none
     empty-name z = at-colon ∙ rw z (simp and-false)
@@ -192,11 +211,6 @@ module _ (s : List ℕ) where
     module _ (z : n ≡ 0 → ⊥) where
       name-is : take n line ≡ take n s
       name-is = take-take n (lineRun s) s (run-line isName name-cr s)
-
-      value-is : drop (n + 1) line ≡ take (lineRun rest) rest
-      value-is =
-          let m : lineRun s - (n + 1) ≡ lineRun rest = omega (arith, line-past) in
-          drop-take (n + 1) (lineRun s) s (omega (arith, line-past)) (omega arith) ∙ ap (λ (k : ℕ). take k rest) m
 
       name-test : isFieldName isName (take n s) ≡ true
       name-test =
@@ -210,7 +224,7 @@ module _ (s : List ℕ) where
           fieldOf isName line
           ≡ cond (leb (lineRun rest) (run isValue rest)) (some (record { name = take n s; value = trimmed (take (lineRun rest) rest) })) none
       by-value =
-          at-colon ∙ rw (name-is, value-is, value-test, name-test, lt-ltb n (length line) (omega (arith, line-length, line-past)))
+          at-colon ∙ rw (name-is, after-name, value-test, name-test, lt-ltb n (length line) (omega (arith, line-length, line-past)))
 
 -- THE LINE OF head THAT BEGINS AT start, where the run of the name's bytes ends at c
 
@@ -218,20 +232,25 @@ module _ (head : List ℕ) (start c : ℕ) (l : start ≤ length head) (name : c
   byte : getD (drop start head) (run isName (drop start head)) 0 ≡ getD head c 0
   byte = getD-drop start head (run isName (drop start head)) 0 ∙ ap (λ (k : ℕ). getD head k 0) (sym name)
 
-  pub colonless : (c < length head → getD head c 0 ≡ 58 → ⊥) → fieldOf isName (linesOf (drop start head) .first) ≡ none
+  malformed : fieldOf isName (linesOf (drop start head) .first) ≡ none → Malformed ≡ placeOf isName head start
+  malformed e = sym (ap (λ (o : Option Field). placeIf o start (linesOf (drop start head) .first)) e)
+
+  pub colonless : (c < length head → getD head c 0 ≡ 58 → ⊥) → Malformed ≡ placeOf isName head start
   colonless h =
-      ap (fieldOf isName) (first-line (drop start head))
-      ∙ no-field (drop start head) (λ i q. h (omega (arith, length-drop start head)) (sym byte ∙ q))
+      malformed
+      (ap (fieldOf isName) (first-line (drop start head))
+      ∙ no-field (drop start head) (λ i q. h (omega (arith, length-drop start head)) (sym byte ∙ q)))
 
   -- .. which is the colon
   module _ (i : c < length head) (q : getD head c 0 ≡ 58) where
     inside : run isName (drop start head) < length (drop start head)
     inside = omega (arith, length-drop start head)
 
-    pub nameless : c ≡ start → fieldOf isName (linesOf (drop start head) .first) ≡ none
+    pub nameless : c ≡ start → Malformed ≡ placeOf isName head start
     nameless z =
-        ap (fieldOf isName) (first-line (drop start head))
-        ∙ empty-name (drop start head) inside (byte ∙ q) (omega arith)
+        malformed
+        (ap (fieldOf isName) (first-line (drop start head))
+        ∙ empty-name (drop start head) inside (byte ∙ q) (omega arith))
 
     abbrev after : List ℕ
     after = drop (c + 1) head
@@ -259,10 +278,10 @@ module _ (head : List ℕ) (start c : ℕ) (l : start ≤ length head) (name : c
       unfolding isValue
       value-line = omega (arith, line-on isValue refl head (c + 1) e value)
 
-      pub valueless : eqb (lineRun (drop e head)) 0 ≡ false → fieldOf isName (linesOf (drop start head) .first) ≡ none
+      pub valueless : eqb (lineRun (drop e head)) 0 ≡ false → Malformed ≡ placeOf isName head start
       valueless h =
           let y : lineRun (drop e head) ≡ 0 → ⊥ = eqb-false (lineRun (drop e head)) 0 h in
-          field-is ∙ rw (lt-leb (lineRun after) (run isValue after) (omega (arith, value-line)))
+          malformed (field-is ∙ rw (lt-leb (lineRun after) (run isValue after) (omega (arith, value-line))))
 
       -- .. where the line ends
       module _ (ends : eqb (lineRun (drop e head)) 0 ≡ true) (v : ℕ) (begins : v ≡ c + 1 + run isBlank (drop (c + 1) head)) where
@@ -286,11 +305,33 @@ module _ (head : List ℕ) (start c : ℕ) (l : start ≤ length head) (name : c
               let m : lineRun after - run isBlank after ≡ e - v = omega (arith, whole) in
               value-part after (lineRun after) blanks (line-le after) ∙ rw (d, m) (ap (λ (k : ℕ). take k (drop v head)) (sym stays))
 
-          pub stands : FieldStands isName head start (c - start) v k e
+          field-there : fieldOf isName (line (drop start head)) ≡ some (record { name = take (c - start) (drop start head); value = take k (drop v head) })
+          field-there =
+              sym (ap (fieldOf isName) (first-line (drop start head))) ∙ field-is
+              ∙ rw (le-leb (lineRun after) (run isValue after) (omega (arith, whole)), value-there)
+
+          value-in : v + k ≤ length head
+          value-in = omega (arith, kept-take (e - v) (drop v head), begins-in, ends-in)
+
+          name-told : nameLength (line (drop start head)) ≡ c - start
+          name-told = omega (arith, name-length (drop start head) inside (byte ∙ q))
+
+          start-told : start + valueStart (line (drop start head)) ≡ v
+          start-told = omega (arith, value-start (drop start head) inside (byte ∙ q), ap (λ (t : List ℕ). run isBlank t) after-is)
+
+          length-told : valueLength (line (drop start head)) ≡ k
+          length-told =
+              value-length (drop start head) inside (byte ∙ q)
+              ∙ ap (λ (t : List ℕ). length (trimmed (take (lineRun t) t))) after-is
+              ∙ ap length value-there
+              ∙ simp (length-take, length-drop) (omega (arith, value-in))
+
+          end-told : start + length (line (drop start head)) ≡ e
+          end-told = omega (arith, line-length (drop start head), line-is, whole)
+
+          pub stands : At (c - start) v k e ≡ placeOf isName head start
           stands =
-              record {
-                field = field-is ∙ rw (le-leb (lineRun after) (run isValue after) (omega (arith, whole)), value-there);
-                name-in = omega arith;
-                value-in = omega (arith, kept-take (e - v) (drop v head), begins-in, ends-in);
-                ends = omega (arith, whole, line-is);
-              }
+              sym
+              (ap (λ (l : List ℕ). placeIf (fieldOf isName l) start l) (first-line (drop start head))
+              ∙ ap (λ (o : Option Field). placeIf o start (line (drop start head))) field-there
+              ∙ rw (start-told, length-told, end-told, name-told))

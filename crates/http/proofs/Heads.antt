@@ -10,12 +10,13 @@ use native.Mathlib.Omega.{arith}
 use lib.Dec.{eqb, leb}
 use lib.ListN.{length, take, drop, getD, length-append, length-take, length-drop, take-append-drop, List·getD-append}
 use lib.Seq.{getD-drop, take-all, take-append-le, take-append-add}
-use borrow.Author.Tests.{ne-eqb, le-leb, lt-leb, eqb-true, leb-true, leb-false}
-use Rattle.octets.specs.Outcome.{refused, gives, given}
+use borrow.Author.Tests.{ne-eqb, le-leb, lt-leb, eqb-true, eqb-false, leb-true, leb-false}
+use Rattle.octets.specs.Outcome.{Outcome, refused, gives, given}
 use Rattle.octets.proofs.Bools.{and-left, and-right}
 use Rattle.octets.proofs.Outcomes.{given-gives}
 use Rattle.octets.proofs.Lists.{next, there, part-more}
 use Rattle.http.specs.Head.{endsHead, endFrom, Passed, headOf}
+use Rattle.http.specs.Claims.{HeadWithin}
 
 -- a head within the limit, and one that may reach past it
 pub under-limit : (s : List ℕ) → length s < 8192 → headOf s ≡ given (endFrom 0 s) 1
@@ -101,7 +102,7 @@ module _ (s : List ℕ) where
     pub pass-sixteen : 13 < getD s (i + 7) 0 → 13 < getD s (i + 11) 0 → 13 < getD s (i + 15) 0 → Passed s from (i + 16)
     pass-sixteen d e f = four-on (i + 12) (i + 15) (i + 16) (omega arith) (omega arith) (omega arith) f from (pass-twelve d e)
 
--- FOR CALLERS: a head lies in s and in the limit, and has its last four bytes
+-- a head lies in s and in the limit, and has its last four bytes
 some-end : (i : ℕ) (s : List ℕ) (n : ℕ) → endFrom i s ≡ some n → (i + 4 ≤ n) × (n ≤ i + length s)
 unfolding endFrom
 some-end i [] n e = let z : _≡_ {A = ℕ} 0 1 = cc in omega arith
@@ -118,22 +119,22 @@ some-end i (b ∷ s) n e =
     by true false q h r = omega (arith, h r)
     by false t q h r = omega (arith, h r)
 
-pub record Within (len n : ℕ) : Type 0 where
-  pub last : 4 ≤ n
-  pub limit : n ≤ 8192
-  pub inside : n ≤ len
-
 found : (s : List ℕ) (n : ℕ) → headOf s ≡ gives n → endFrom 0 (take 8192 s) ≡ some n
 unfolding headOf
 found s n e = given-gives (endFrom 0 (take 8192 s)) _ n e
 
-pub head-within : (s : List ℕ) (n : ℕ) → headOf s ≡ gives n → Within (length s) n
-head-within s n e =
+record Bounds (len n : ℕ) : Type 0 where
+  last : 4 ≤ n
+  limit : n ≤ 8192
+  inside : n ≤ len
+
+bounds : (s : List ℕ) (n : ℕ) → headOf s ≡ gives n → Bounds (length s) n
+bounds s n e =
     let b = some-end 0 (take 8192 s) n (found s n e) in
     let l = length-take 8192 s in
     record { last = omega arith; limit = omega arith; inside = omega arith }
 
--- FOR CALLERS: the last four bytes of a head are CR LF CR LF
+-- the last four bytes of a head are CR LF CR LF
 four-bytes : (s : List ℕ) → endsHead s ≡ true → take 4 s ≡ 13 ∷ 10 ∷ 13 ∷ 10 ∷ []
 four-bytes s e =
     let x = and-left _ (eqb (getD s 3 0) 10) e in
@@ -175,15 +176,15 @@ first-ends s n e =
     let z : n - 4 ≡ n - 0 - 4 = omega arith in
     four-bytes (drop (n - 4) s) (ap (λ (k : ℕ). endsHead (drop k s)) z ∙ some-ends 0 s n e)
 
-pub head-ends : (s : List ℕ) (n : ℕ) → headOf s ≡ gives n → take 4 (drop (n - 4) s) ≡ 13 ∷ 10 ∷ 13 ∷ 10 ∷ []
+head-ends : (s : List ℕ) (n : ℕ) → headOf s ≡ gives n → take 4 (drop (n - 4) s) ≡ 13 ∷ 10 ∷ 13 ∷ 10 ∷ []
 head-ends s n e =
-    let w = head-within s n e in
+    let w = bounds s n e in
     let f = first-ends (take 8192 s) n (found s n e) in
     let q : take 8192 s ++ drop 8192 s ≡ s = take-append-drop 8192 s in
     let l : n - 4 + 4 ≤ length (take 8192 s) = simp length-take (omega (arith, w .last, w .limit, w .inside)) in
     ap (λ (t : List ℕ). take 4 (drop (n - 4) t)) (sym q) ∙ part-more (take 8192 s) (drop 8192 s) (n - 4) 4 l ∙ f
 
--- FOR CALLERS: bytes after a head do not change it
+-- bytes after a head do not change it
 end-more : (i : ℕ) (s t : List ℕ) (n : ℕ) → endFrom i s ≡ some n → endFrom i (s ++ t) ≡ some n
 unfolding endFrom
 end-more i [] t n e = let z : _≡_ {A = ℕ} 0 1 = cc in cc
@@ -212,7 +213,7 @@ more-under s t n h e =
     let q : take 8192 (s ++ t) ≡ s ++ take (8192 - length s) t = ap (λ (k : ℕ). take k (s ++ t)) (sym m) ∙ take-append-add s t (8192 - length s) in
     rw (q, end-more 0 s (take (8192 - length s) t) n e)
 
--- FOR CALLERS: an answer other than 1 stays when bytes are added
+-- an answer other than 1 stays when bytes are added
 pub head-keeps : (s t : List ℕ) → (headOf s ≡ refused 1 → ⊥) → headOf (s ++ t) ≡ headOf s
 head-keeps s t other = split (leb 8192 (length s)) refl
   where
@@ -224,5 +225,31 @@ head-keeps s t other = split (leb 8192 (length s)) refl
     split true q = more-over s t (leb-true _ _ q)
     split false q = under (leb-false _ _ q) (endFrom 0 s) refl
 
-pub head-more : (s t : List ℕ) (n : ℕ) → headOf s ≡ gives n → headOf (s ++ t) ≡ gives n
-head-more s t n e = head-keeps s t (λ r. let z : _≡_ {A = ℕ} 0 1 = cc in omega arith) ∙ e
+pub head-within : (s : List ℕ) (n : ℕ) → headOf s ≡ gives n → HeadWithin s n
+head-within s n e =
+    let b = bounds s n e in
+    record { last = b .last; limit = b .limit; inside = b .inside; ends = head-ends s n e }
+
+-- a head that is cut gives 1: another answer would stay with the bytes that are cut off, and a head would be shorter than itself
+pub head-cut : (s : List ℕ) (n k : ℕ) → headOf s ≡ gives n → k < n → headOf (take k s) ≡ refused 1
+head-cut s n k e h = by (headOf (take k s)) refl
+  where
+    whole : (headOf (take k s) ≡ refused 1 → ⊥) → headOf (take k s) ≡ gives n
+    whole other = sym (head-keeps (take k s) (drop k s) other) ∙ ap headOf (take-append-drop k s) ∙ e
+
+    short : headOf (take k s) ≡ gives n → ⊥
+    short q = omega (arith, bounds (take k s) n q .inside, length-take k s)
+
+    by : (o : Outcome ℕ) → headOf (take k s) ≡ o → headOf (take k s) ≡ refused 1
+    by (gives m) q = absurd (short (whole (λ r. let z : _≡_ {A = ℕ} 0 1 = cc in omega arith)))
+    by (refused m) q = split (eqb m 1) refl
+      where
+        split : (t : Bool) → eqb m 1 ≡ t → headOf (take k s) ≡ refused 1
+        split true w = q ∙ ap refused (eqb-true m 1 w)
+        split false w =
+            absurd
+            (short
+            (whole
+            (λ r.
+            let z : m ≡ 1 = cc in
+            eqb-false m 1 w z)))

@@ -4,5 +4,7 @@ pub mod Requests
 pub mod FieldLines
 pub mod FieldScans
 pub mod Places
+pub mod FieldPlaces
 pub mod Numbers
+pub mod Claims
 pub mod Worked

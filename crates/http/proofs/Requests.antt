@@ -2,11 +2,11 @@
 -- Assumes nothing.
 use mathlib.Core.Path.{_≡_, refl, sym, ap, _∙_}
 use mathlib.Core.Bool.{Bool, true, false, _||_, and-false, false≢true}
-use mathlib.Core.List.{List, [], _∷_, _++_}
-use Prim.Native.Nat.{ℕ, _+_, _-_, _≤_, _<_}
+use mathlib.Core.List.{List, [], _∷_, _++_, append-assoc}
+use Prim.Native.Nat.{ℕ, suc, _+_, _-_, _≤_, _<_}
 use native.Mathlib.Omega.{arith}
-use lib.ListN.{length, take, drop, getD, length-drop}
-use lib.Seq.{drop-drop}
+use lib.ListN.{length, take, drop, getD, length-append, length-take, length-drop}
+use lib.Seq.{drop-drop, take-at, drop-at, length-take-le}
 use borrow.Author.Tests.{eq-eqb, ne-eqb, le-leb, lt-leb}
 use Rattle.octets.specs.Text.{bytes}
 use Rattle.octets.specs.Outcome.{Outcome, refused, gives, then, need}
@@ -18,10 +18,12 @@ use Rattle.octets.specs.Lists.{All, _&_, Without, NoNul}
 use Rattle.octets.proofs.Bools.{and-right}
 use Rattle.octets.proofs.Alls.{all-without, no-nul}
 use Rattle.octets.proofs.Compares.{same-true}
-use Rattle.octets.proofs.Outcomes.{need-gives, then-gives}
+use Rattle.octets.proofs.Outcomes.{Gave, need-gives, then-gives, gives-once}
 use Rattle.octets.proofs.Scans.{all-run}
 use Rattle.octets.proofs.Parting.{joinedBy, parts-of, part-ended, part-found, part-none}
-use Rattle.http.specs.RequestLine.{FirstLine, isMethod, isVersion, isServed, versionOf, versionText, threeParts, requestLineOf}
+use Rattle.http.specs.RequestLine.{FirstLine, isMethod, isVersion, isServed, versionOf, versionText, threeParts, requestLineOf, LineParts, linePlaces, linePlacesOf, lineOutcome}
+use Rattle.http.specs.Claims.{Reads, LineStands}
+use Rattle.http.specs.declared.request_line.RequestLine.the-variants.{Line, Refused as LineRefused}
 
 -- the method
 module _ (m : List ℕ) where
@@ -102,18 +104,21 @@ module _ (line : List ℕ) (i j : ℕ) (end : j ≡ i + run (other 32) (drop i l
   last-part : length line ≤ j → parted 32 (drop i line) ≡ record { first = drop i line; others = [] }
   last-part h = part-none 32 (drop i line) (simp length-drop (omega arith))
 
-abbrev partsOutcome : Parts → Outcome FirstLine
-partsOutcome p = threeParts (p .first) (p .others)
+abbrev lineOf : Parts → Outcome FirstLine
+lineOf p = threeParts (p .first) (p .others)
+
+abbrev partsOutcome : Parts → Outcome LineParts
+partsOutcome p = then (lineOf p) (λ f. gives (linePlaces f))
 
 -- the first space stands at m
 module _ (line : List ℕ) (m : ℕ) (method : m ≡ 0 + run (other 32) (drop 0 line)) where
-  pub one-part : length line ≤ m → requestLineOf line ≡ refused 12
+  pub one-part : length line ≤ m → linePlacesOf line ≡ refused 12
   unfolding requestLineOf
   one-part h = ap partsOutcome (last-part line 0 m method h)
 
   -- .. and the second at t
   module _ (l : m < length line) (t : ℕ) (target : t ≡ m + 1 + run (other 32) (drop (m + 1) line)) where
-    pub two-parts : length line ≤ t → requestLineOf line ≡ refused 12
+    pub two-parts : length line ≤ t → linePlacesOf line ≡ refused 12
     unfolding requestLineOf
     two-parts h = ap partsOutcome (more-parts line 0 m method l ∙ ap (before (take (m - 0) line)) (last-part line (m + 1) t target h))
 
@@ -127,36 +132,48 @@ module _ (line : List ℕ) (m : ℕ) (method : m ≡ 0 + run (other 32) (drop 0 
           ∙ ap (λ (n : ℕ). before (take n line) (parted 32 (drop (m + 1) line))) z
           ∙ ap (before (take m line)) (more-parts line (m + 1) t target k)
 
-      pub four-parts : e < length line → requestLineOf line ≡ refused 12
+      pub four-parts : e < length line → linePlacesOf line ≡ refused 12
       unfolding requestLineOf
       four-parts h = ap partsOutcome (parts ∙ ap (λ (p : Parts). before (take m line) (before (take (t - (m + 1)) (drop (m + 1) line)) p)) (more-parts line (t + 1) e version h))
 
       module _ (h : length line ≤ e) where
         three-parts :
-            requestLineOf line
-            ≡ need (isMethod (take m line)) 12
-            (then (versionOf (drop (t + 1) line)) (λ w. gives (record { method = take m line; target = take (t - (m + 1)) (drop (m + 1) line); version = w })))
+            linePlacesOf line
+            ≡ then
+            (need (isMethod (take m line)) 12
+            (then (versionOf (drop (t + 1) line)) (λ w. gives (record { method = take m line; target = take (t - (m + 1)) (drop (m + 1) line); version = w }))))
+            (λ f. gives (linePlaces f))
         unfolding requestLineOf
         three-parts = ap partsOutcome (parts ∙ ap (λ (p : Parts). before (take m line) (before (take (t - (m + 1)) (drop (m + 1) line)) p)) (last-part line (t + 1) e version h))
 
-        pub no-method : isMethod (take m line) ≡ false → requestLineOf line ≡ refused 12
+        pub no-method : isMethod (take m line) ≡ false → linePlacesOf line ≡ refused 12
         no-method q = three-parts ∙ rw q
 
-        pub bad-version : isMethod (take m line) ≡ true → (n : ℕ) → versionOf (drop (t + 1) line) ≡ refused n → requestLineOf line ≡ refused n
+        pub bad-version : isMethod (take m line) ≡ true → (n : ℕ) → versionOf (drop (t + 1) line) ≡ refused n → linePlacesOf line ≡ refused n
         bad-version q n r = three-parts ∙ rw (q, r)
 
         pub whole :
             isMethod (take m line) ≡ true → (d : ℕ) → versionOf (drop (t + 1) line) ≡ gives (versionText d)
-            → requestLineOf line ≡ gives (record { method = take m line; target = take (t - (m + 1)) (drop (m + 1) line); version = versionText d })
-        whole q d r = three-parts ∙ rw (q, r)
+            → linePlacesOf line ≡ gives (record { methodLength = m; targetStart = m + 1; targetLength = t - (m + 1); version = versionText d })
+        whole q d r =
+            let x : length (take m line) ≡ m = length-take-le m line (omega arith) in
+            let y : length (take (t - (m + 1)) (drop (m + 1) line)) ≡ t - (m + 1) = simp (length-take, length-drop) (omega arith) in
+            three-parts ∙ rw (q, r, x, y)
 
--- FOR CALLERS: what a request line is made of, and that what is made so is a request line
-pub record Reads (line : List ℕ) (f : FirstLine) : Type 0 where
-  pub parts : line ≡ f .method ++ (32 ∷ (f .target ++ (32 ∷ f .version)))
-  pub method : isMethod (f .method) ≡ true
-  pub target : Without 32 (f .target)
-  pub version : isVersion (f .version) ≡ true
-  pub served : isServed (f .version) ≡ true
+-- WHAT A REQUEST LINE IS MADE OF, and that what is made so is a request line
+
+-- no NUL in a method, nor in a version
+method-no-nul : (m : List ℕ) → isMethod m ≡ true → NoNul m
+unfolding isMethod isToken isDigit isLetter
+method-no-nul m e = all-without isToken 0 m refl (and-right (within 1 32 (length m)) (allOf isToken m) e)
+
+served-no-nul : (v : List ℕ) → isServed v ≡ true → NoNul v
+served-no-nul v = by (sameBytes v (bytes "HTTP/1.0")) (sameBytes v (bytes "HTTP/1.1")) refl refl
+  where
+    by : (t u : Bool) → sameBytes v (bytes "HTTP/1.0") ≡ t → sameBytes v (bytes "HTTP/1.1") ≡ u → t || u ≡ true → NoNul v
+    by true u p q e = rw (same-true v (bytes "HTTP/1.0") p) (no-nul (bytes "HTTP/1.0") refl)
+    by false true p q e = rw (same-true v (bytes "HTTP/1.1") q) (no-nul (bytes "HTTP/1.1") refl)
+    by false false p q e = absurd (false≢true e)
 
 three :
     (line m t v : List ℕ) (f : FirstLine) → joinedBy 32 m (t ∷ (v ∷ [])) ≡ line → Without 32 t
@@ -169,7 +186,16 @@ three line m t v f j n e =
     let d = need-gives (isServed v) 13 (gives v) (g .it) (b .1) in
     let x : v ≡ g .it = cc in
     let y : f ≡ record { method = m; target = t; version = v } = cc in
-    rw y (record { parts = sym j; method = a .0; target = n; version = b .0; served = d .0 })
+    rw y
+    (record {
+      parts = sym j;
+      method = a .0;
+      target = n;
+      version = b .0;
+      served = d .0;
+      method-no-nul = method-no-nul m (a .0);
+      version-no-nul = served-no-nul v (d .0);
+    })
 
 pub line-read : (line : List ℕ) (f : FirstLine) → requestLineOf line ≡ gives f → Reads line f
 unfolding requestLineOf
@@ -205,17 +231,81 @@ line-made line f r =
     let p : parted 32 line ≡ record { first = f .method; others = f .target ∷ (f .version ∷ []) } =
     ap (parted 32) (r .parts) ∙ part-ended 32 (f .method) _ (method-space _ (r .method))
     ∙ rw (part-ended 32 (f .target) (f .version) (r .target), last-one (f .version) (served-space _ (r .served))) in
-    ap partsOutcome p ∙ rw (r .method, r .version, r .served)
+    ap lineOf p ∙ rw (r .method, r .version, r .served)
 
--- FOR CALLERS: no NUL in a method, nor in a version
-pub method-no-nul : (m : List ℕ) → isMethod m ≡ true → NoNul m
-unfolding isMethod isToken isDigit isLetter
-method-no-nul m e = all-without isToken 0 m refl (and-right (within 1 32 (length m)) (allOf isToken m) e)
+-- THE PARTS AT THEIR PLACES
 
-pub served-no-nul : (v : List ℕ) → isServed v ≡ true → NoNul v
-served-no-nul v = by (sameBytes v (bytes "HTTP/1.0")) (sameBytes v (bytes "HTTP/1.1")) refl refl
+-- a version that is served
+served-minor : (d : ℕ) → isServed (versionText d) ≡ true → d ≤ 1
+served-minor d = by (sameBytes (versionText d) (bytes "HTTP/1.0")) (sameBytes (versionText d) (bytes "HTTP/1.1")) refl refl
   where
-    by : (t u : Bool) → sameBytes v (bytes "HTTP/1.0") ≡ t → sameBytes v (bytes "HTTP/1.1") ≡ u → t || u ≡ true → NoNul v
-    by true u p q e = rw (same-true v (bytes "HTTP/1.0") p) (no-nul (bytes "HTTP/1.0") refl)
-    by false true p q e = rw (same-true v (bytes "HTTP/1.1") q) (no-nul (bytes "HTTP/1.1") refl)
+    by :
+        (t u : Bool) → sameBytes (versionText d) (bytes "HTTP/1.0") ≡ t → sameBytes (versionText d) (bytes "HTTP/1.1") ≡ u → t || u ≡ true → d ≤ 1
+    by true u p q e =
+        let z : 48 + d ≡ 48 = ap (λ (s : List ℕ). getD s 7 0) (same-true (versionText d) (bytes "HTTP/1.0") p) in
+        omega arith
+    by false true p q e =
+        let z : 48 + d ≡ 49 = ap (λ (s : List ℕ). getD s 7 0) (same-true (versionText d) (bytes "HTTP/1.1") q) in
+        omega arith
     by false false p q e = absurd (false≢true e)
+
+module _ (line : List ℕ) (m t k d : ℕ) (says : lineOutcome (Line m t k d) ≡ linePlacesOf line) where
+  abbrev told : LineParts
+  told = record { methodLength = m; targetStart = t; targetLength = k; version = versionText d }
+
+  gave : Gave (requestLineOf line) (λ f. gives (linePlaces f)) told
+  gave = then-gives (requestLineOf line) (λ f. gives (linePlaces f)) told (sym says)
+
+  abbrev f : FirstLine
+  f = gave .it
+
+  same : linePlaces f ≡ told
+  same = gives-once _ _ (gave .next)
+
+  made : Reads line f
+  made = line-read line f (gave .first)
+
+  method-is : length (f .method) ≡ m
+  method-is = ap (λ (p : LineParts). p .methodLength) same
+
+  start-is : length (f .method) + 1 ≡ t
+  start-is = ap (λ (p : LineParts). p .targetStart) same
+
+  target-is : length (f .target) ≡ k
+  target-is = ap (λ (p : LineParts). p .targetLength) same
+
+  version-is : f .version ≡ versionText d
+  version-is = ap (λ (p : LineParts). p .version) same
+
+  abbrev behind : List ℕ
+  behind = f .target ++ (32 ∷ f .version)
+
+  method-there : take m line ≡ f .method
+  method-there = ap (take m) (made .parts) ∙ take-at (f .method) (32 ∷ behind) m method-is
+
+  behind-there : drop t line ≡ behind
+  behind-there =
+      let e : f .method ++ (32 ∷ behind) ≡ (f .method ++ (32 ∷ [])) ++ behind = sym (append-assoc (f .method) (32 ∷ []) behind) in
+      ap (drop t) (made .parts ∙ e) ∙ drop-at (f .method ++ (32 ∷ [])) behind t (length-append (f .method) (32 ∷ []) ∙ start-is)
+
+  target-there : take k (drop t line) ≡ f .target
+  target-there = ap (take k) behind-there ∙ take-at (f .target) (32 ∷ f .version) k target-is
+
+  long : length line ≡ length (f .method) + suc (length (f .target) + suc (length (f .version)))
+  long = ap length (made .parts) ∙ simp length-append
+
+  pub line-stands : LineStands line m t k d
+  line-stands =
+      record {
+        answer = sym (gave .first ∙ rw (method-there, target-there, ← version-is));
+        method-inside = omega (arith, long, method-is);
+        target-inside = omega (arith, long, start-is, target-is);
+        minor-is = served-minor d (rw version-is at (made .served));
+      }
+
+pub line-refused : (line : List ℕ) (n : ℕ) → lineOutcome (LineRefused n) ≡ linePlacesOf line → refused n ≡ requestLineOf line
+line-refused line n = by (requestLineOf line)
+  where
+    by : (o : Outcome FirstLine) → _≡_ {A = Outcome LineParts} (refused n) (then o (λ f. gives (linePlaces f))) → refused n ≡ o
+    by (refused m) e = cc
+    by (gives f) e = cc

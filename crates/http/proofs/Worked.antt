@@ -3,6 +3,7 @@
 use Prim.Native.Nat.{ℕ}
 use mathlib.Core.Path.{_≡_, refl}
 use mathlib.Core.List.{List, [], _∷_, _++_, map}
+use mathlib.Core.Option.{Option, none, some}
 use lib.ListN.{replicate}
 use Rattle.octets.specs.Text.{bytes}
 use Rattle.octets.specs.Outcome.{Outcome, refused, gives}
@@ -12,9 +13,9 @@ use Rattle.octets.specs.Trim.{kept}
 use Rattle.octets.specs.Compare.{sameBytes}
 use Rattle.octets.specs.Parts.{Parts, parted}
 use Rattle.http.specs.Head.{endFrom, headOf}
-use Rattle.http.specs.Lines.{linesFrom, linesOf}
-use Rattle.http.specs.RequestLine.{FirstLine, isMethod, isVersion, versionOf, requestLineOf}
-use Rattle.http.specs.Fields.{Field, fieldOf, eachField, fieldsOf}
+use Rattle.http.specs.Lines.{linesFrom, linesOf, lineRun}
+use Rattle.http.specs.RequestLine.{FirstLine, isMethod, isVersion, versionOf, requestLineOf, linePlacesOf}
+use Rattle.http.specs.Fields.{Field, fieldOf, eachField, fieldsOf, FieldNumbers, numbersOf, placesFrom, placesOf}
 
 abbrev crlf : List ℕ
 crlf = 13 ∷ 10 ∷ []
@@ -117,3 +118,28 @@ one-too-many = refl
 pub underscore-allowed : fieldsOf isToken (bytes "A_b: c" ∷ []) ≡ gives (record { name = bytes "A_b"; value = bytes "c" } ∷ [])
 unfolding eachField fieldOf run allOf kept isToken isDigit isLetter isBlank isValue
 underscore-allowed = refl
+
+-- WHERE THEY STAND
+
+pub line-places : linePlacesOf (bytes "a a HTTP/1.0") ≡ gives (record { methodLength = 1; targetStart = 2; targetLength = 1; version = bytes "HTTP/1.0" })
+unfolding requestLineOf isMethod isVersion versionOf parted sameBytes allOf isToken isDigit isLetter
+line-places = refl
+
+unfoldable pub fieldNumbers : List (Case (List ℕ) (Option FieldNumbers))
+fieldNumbers =
+    record { input = bytes "a:a"; answer = some (record { name = 1; value = 2; len = 1 }) } ∷
+    record { input = bytes "A: b c "; answer = some (record { name = 1; value = 3; len = 3 }) } ∷
+    record { input = bytes "A:"; answer = some (record { name = 1; value = 2; len = 0 }) } ∷
+    record { input = bytes "A:  "; answer = some (record { name = 1; value = 4; len = 0 }) } ∷
+    record { input = bytes "A"; answer = none } ∷
+    []
+
+pub field-numbers-right : map (λ c. numbersOf isName (c .input)) fieldNumbers ≡ map (λ c. c .answer) fieldNumbers
+unfolding fieldNumbers fieldOf run allOf kept isName isToken isDigit isLetter isBlank isValue
+field-numbers-right = refl
+
+pub places-right :
+    placesOf (bytes "GET / HTTP/1.1" ++ crlf ++ bytes "A: b" ++ crlf ++ bytes "Cd:")
+    ≡ 16 ∷ 1 ∷ 19 ∷ 1 ∷ 22 ∷ 2 ∷ 25 ∷ 0 ∷ []
+unfolding placesFrom linesFrom lineRun run kept isBlank
+places-right = refl

@@ -7,10 +7,11 @@ use mathlib.Core.List.{List, [], _∷_}
 use mathlib.Core.Option.{Option, none, some}
 use lib.Dec.{leb, ltb}
 use lib.ListN.{length, take, drop, getD}
-use Rattle.octets.specs.Outcome.{Outcome, refused, gives, given}
-use Rattle.octets.specs.Kinds.{isValue}
+use Rattle.octets.specs.Outcome.{Outcome, refused, gives, then, given}
+use Rattle.octets.specs.Kinds.{isBlank, isValue}
 use Rattle.octets.specs.Scan.{run, allOf, other}
 use Rattle.octets.specs.Trim.{trimmed}
+use Rattle.octets.specs.Copy.{over}
 use Rattle.http.specs.Lines.{linesOf, lineRun}
 use Rattle.http.specs.declared.fields.FieldLine.{FieldLine}
 use Rattle.http.specs.declared.fields.FieldLine.the-variants.{Field as LineField, Malformed}
@@ -29,17 +30,29 @@ pub record Field : Type 0 where
 abbrev pub isFieldName : (ℕ → Bool) → List ℕ → Bool
 isFieldName rule n = ltb 0 (length n) && allOf rule n
 
--- the field of a line whose first `:` stands at n: "Values lose spaces and tabs at both ends; what is left has only bytes 9, 32 to 126
--- and 128 to 255."
+-- the field of a line whose first `:`, which is 58, stands at n: "Values lose spaces and tabs at both ends; what is left has only bytes 9,
+-- 32 to 126 and 128 to 255."
 abbrev pub fieldWith : (ℕ → Bool) → List ℕ → ℕ → Option Field
 fieldWith rule line n =
     let name = take n line in
     let value = trimmed (drop (n + 1) line) in
     cond (ltb n (length line) && isFieldName rule name && allOf isValue value) (some (record { name = name; value = value })) none
 
--- "A field line is a name, `:`, a value"; 58 is `:`. "A line that begins with space or tab is refused": neither is a byte of a name.
+-- "A field line is a name, `:`, a value": how long the name is
+abbrev pub nameLength : List ℕ → ℕ
+nameLength line = run (other 58) line
+
+-- "A line that begins with space or tab is refused": neither is a byte of a name.
 unfoldable pub fieldOf : (ℕ → Bool) → List ℕ → Option Field
-fieldOf rule line = fieldWith rule line (run (other 58) line)
+fieldOf rule line = fieldWith rule line (nameLength line)
+
+-- where the value starts: after the colon and the spaces and tabs that it loses. An empty value starts where these end, at the line's end.
+abbrev pub valueStart : List ℕ → ℕ
+valueStart line = let behind = nameLength line + 1 in behind + run isBlank (drop behind line)
+
+-- how long the value is
+abbrev pub valueLength : List ℕ → ℕ
+valueLength line = length (trimmed (drop (nameLength line + 1) line))
 
 -- a field before others, where all are there
 abbrev pub ahead : Option Field → Option (List Field) → Option (List Field)
@@ -60,32 +73,57 @@ fieldsIn k rule lines = cond (leb (length lines) k) (eachField rule lines) none
 abbrev pub fieldsOf : (ℕ → Bool) → List (List ℕ) → Outcome (List Field)
 fieldsOf rule lines = given (fieldsIn 64 rule lines) 15
 
--- what the code's answer for one line says: the name is the first bytes of the line, the value stands at a place in it
-abbrev pub fieldIn : List ℕ → FieldLine → Option Field
-fieldIn line (LineField n v k) = some (record { name = take n line; value = take k (drop v line) })
-fieldIn line Malformed = none
+-- where the field of a line stands in it: how long its name is, where its value starts, and how long that is
+pub record FieldNumbers : Type 0 where
+  pub name : ℕ
+  pub value : ℕ
+  pub len : ℕ
 
--- where the name and the value end, as the code's answer places them; 0 where there is none
-abbrev pub nameEnd : FieldLine → ℕ
-nameEnd (LineField n v k) = n
-nameEnd Malformed = 0
+abbrev pub numbersIf : Option Field → List ℕ → Option FieldNumbers
+numbersIf none line = none
+numbersIf (some f) line = some (record { name = nameLength line; value = valueStart line; len = valueLength line })
 
-abbrev pub valueEnd : FieldLine → ℕ
-valueEnd (LineField n v k) = v + k
-valueEnd Malformed = 0
+abbrev pub numbersOf : (ℕ → Bool) → List ℕ → Option FieldNumbers
+numbersOf rule line = numbersIf (fieldOf rule line) line
 
--- the line of head that begins at start: its field stands in head, where its name has n bytes and its value begins at v and has k bytes, and the
--- line ends at e
-pub record FieldStands (rule : ℕ → Bool) (head : List ℕ) (start n v k e : ℕ) : Type 0 where
-  pub field : fieldOf rule (linesOf (drop start head) .first) ≡ some (record { name = take n (drop start head); value = take k (drop v head) })
-  pub name-in : start + n ≤ length head
-  pub value-in : v + k ≤ length head
-  pub ends : e ≡ start + lineRun (drop start head)
+-- what the code's answer says
+abbrev pub lineOption : FieldLine → Option FieldNumbers
+lineOption (LineField n v k) = some (record { name = n; value = v; len = k })
+lineOption Malformed = none
 
--- what the code's answer for that line says
-abbrev pub FieldPlaced : (ℕ → Bool) → List ℕ → ℕ → FieldPlace → Type 0
-FieldPlaced rule head start (At n v k e) = FieldStands rule head start n v k e
-FieldPlaced rule head start NoPlace = fieldOf rule (linesOf (drop start head) .first) ≡ none
+-- the same for a line that starts at a place in a head, and where the line ends there
+abbrev pub placeIf : Option Field → ℕ → List ℕ → FieldPlace
+placeIf none at line = NoPlace
+placeIf (some f) at line = At (nameLength line) (at + valueStart line) (valueLength line) (at + length line)
+
+abbrev pub placeOf : (ℕ → Bool) → List ℕ → ℕ → FieldPlace
+placeOf rule head at = let line = linesOf (drop at head) .first in placeIf (fieldOf rule line) at line
+
+-- four numbers for each line, of which the first starts at a place: the start and length of its name and of its value. A line ends in CR LF.
+unfoldable pub placesFrom : ℕ → List (List ℕ) → List ℕ
+placesFrom at [] = []
+placesFrom at (l ∷ ls) = at ∷ (nameLength l ∷ ((at + valueStart l) ∷ (valueLength l ∷ placesFrom (at + length l + 2) ls)))
+
+-- .. for each line of a head but the first
+abbrev pub placesOf : List ℕ → List ℕ
+placesOf head = placesFrom (lineRun head + 2) (linesOf head .others)
+
+-- what the code's answer says: how many fields there are
+abbrev pub fieldsOutcome : Fields → Outcome ℕ
+fieldsOutcome (Count n) = gives n
+fieldsOutcome (Refused k) = refused k
+
+-- the list before and after: the numbers are stored at its front, and else it is as it was; on 15 the first 256 numbers may be any
+abbrev pub StoredAs : List ℕ → List ℕ → List ℕ → Fields → Type 0
+StoredAs head before after (Count n) = after ≡ over before 0 (placesOf head)
+StoredAs head before after (Refused k) = (length after ≡ length before) × (drop 256 after ≡ drop 256 before)
+
+-- the answer r, and the list before and after, are those of the field lines of a head
+pub record Stored (rule : ℕ → Bool) (head before after : List ℕ) (r : Fields) : Type 0 where
+  pub answer : fieldsOutcome r ≡ then (fieldsOf rule (linesOf head .others)) (λ fs. gives (length fs))
+  pub numbers : StoredAs head before after r
+
+-- THE FIELDS THAT STAND AT STORED PLACES
 
 -- the field with number k, whose four numbers stand from 4 * k on in a list: start and length of its name, start and length of its value
 abbrev pub fieldAt : List ℕ → List ℕ → ℕ → Field
@@ -108,23 +146,3 @@ pub record Inside (head ps : List ℕ) (k : ℕ) : Type 0 where
 -- .. and so for the first n
 abbrev pub AllInside : List ℕ → List ℕ → ℕ → Type 0
 AllInside head ps n = (k : ℕ) → k < n → Inside head ps k
-
--- what the code's answer says, with the numbers that it left in the list
-abbrev pub fieldsOutcome : List ℕ → List ℕ → Fields → Outcome (List Field)
-fieldsOutcome head ps (Count n) = gives (fieldsAt head ps 0 n)
-fieldsOutcome head ps (Refused k) = refused k
-
--- how many fields are stored; and from where on the list is as it was
-abbrev pub countOf : Fields → ℕ
-countOf (Count n) = n
-countOf (Refused k) = 0
-
-abbrev pub unusedFrom : Fields → ℕ
-unusedFrom (Count n) = 4 * n
-unusedFrom (Refused k) = 256
-
--- the answer r, and what it left in the list, are the fields of the lines, whose names and values stand in head
-pub record Stored (rule : ℕ → Bool) (lines : List (List ℕ)) (head before after : List ℕ) (r : Fields) : Type 0 where
-  pub answer : fieldsOutcome head after r ≡ fieldsOf rule lines
-  pub inside : AllInside head after (countOf r)
-  pub unused : drop (unusedFrom r) after ≡ drop (unusedFrom r) before

@@ -4,7 +4,7 @@ use Prim.Native.Nat.{ℕ, _+_}
 use mathlib.Core.Bool.{Bool, _&&_, _||_}
 use mathlib.Core.List.{List, [], _∷_, _++_}
 use lib.Dec.{eqb}
-use lib.ListN.{length, take, drop, getD}
+use lib.ListN.{length, take, getD}
 use Rattle.octets.specs.Text.{bytes}
 use Rattle.octets.specs.Outcome.{Outcome, refused, gives, then, need}
 use Rattle.octets.specs.Kinds.{isDigit, isToken, within}
@@ -54,20 +54,30 @@ requestLineOf line = threeParts (parted 32 line .first) (parted 32 line .others)
 abbrev pub versionText : ℕ → List ℕ
 versionText d = bytes "HTTP/1." ++ ((48 + d) ∷ [])
 
--- what the code's answers say: the method is the first bytes of the line, the target stands at a place in it
+-- where the parts of a request line stand in it: the method is its first bytes, the target starts one after the method's space
+pub record LineParts : Type 0 where
+  pub methodLength : ℕ
+  pub targetStart : ℕ
+  pub targetLength : ℕ
+  pub version : List ℕ
+
+abbrev pub linePlaces : FirstLine → LineParts
+linePlaces f =
+    record {
+      methodLength = length (f .method);
+      targetStart = length (f .method) + 1;
+      targetLength = length (f .target);
+      version = f .version;
+    }
+
+abbrev pub linePlacesOf : List ℕ → Outcome LineParts
+linePlacesOf line = then (requestLineOf line) (λ f. gives (linePlaces f))
+
+-- what the code's answers say
 abbrev pub versionOutcome : Version → Outcome (List ℕ)
 versionOutcome (Minor d) = gives (versionText d)
 versionOutcome (VersionRefused k) = refused k
 
-abbrev pub lineOutcome : List ℕ → RequestLine → Outcome FirstLine
-lineOutcome line (Line m t k d) = gives (record { method = take m line; target = take k (drop t line); version = versionText d })
-lineOutcome line (Refused k) = refused k
-
--- where the method and the target end, as the code's answer places them; 0 in a refusal
-abbrev pub methodEnd : RequestLine → ℕ
-methodEnd (Line m t k d) = m
-methodEnd (Refused k) = 0
-
-abbrev pub targetEnd : RequestLine → ℕ
-targetEnd (Line m t k d) = t + k
-targetEnd (Refused k) = 0
+abbrev pub lineOutcome : RequestLine → Outcome LineParts
+lineOutcome (Line m t k d) = gives (record { methodLength = m; targetStart = t; targetLength = k; version = versionText d })
+lineOutcome (Refused k) = refused k

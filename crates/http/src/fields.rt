@@ -2,10 +2,11 @@
 ghost use mathlib.Core.Path.{_≡_};
 ghost use Prim.Native.Nat.{_+_, _≤_};
 ghost use lib.ListN.{length, set};
+ghost use Rattle.octets.specs.Outcome.{refusalOf};
 ghost use Rattle.octets.specs.Kinds.{isName, rule};
 ghost use Rattle.octets.specs.KindTable.{table};
-ghost use Rattle.http.specs.Lines.{linesOf, lineRun};
-ghost use Rattle.http.specs.Fields.{fieldIn, nameEnd, valueEnd, fieldOf, FieldPlaced, Stored};
+ghost use Rattle.http.specs.Lines.{lineRun};
+ghost use Rattle.http.specs.Fields.{lineOption, numbersOf, placeOf, fieldsOutcome, Stored};
 use crate::lines::is_line_end;
 use octets::kinds::Kind;
 use octets::scan::find;
@@ -25,7 +26,7 @@ pub enum FieldLine {
 // The field of a line, which is given without its end; the bytes of its name are of the kind.
 pub fn field_line(kinds: &[u8; 256], kind: Kind, line: &[u8]) -> FieldLine
     requires { ⌜ now kinds ≡ table ⌝ }
-    ensures { λ r. ⌜ (fieldIn (now (line .entry)) r ≡ fieldOf (rule kind) (now (line .entry))) × (nameEnd r ≤ length (now (line .entry))) × (valueEnd r ≤ length (now (line .entry))) ⌝ }
+    ensures { λ r. ⌜ lineOption r ≡ numbersOf (rule kind) (now (line .entry)) ⌝ }
 {
     let n = find(line, 0, b':');
     if line.len() <= n {
@@ -50,7 +51,7 @@ pub fn field_line(kinds: &[u8; 256], kind: Kind, line: &[u8]) -> FieldLine
 }
 
 enum FieldPlace {
-    // How long the name is, where the value stands and how long it is, and where the line ends.
+    // How long the name is, where the value starts in the head and how long it is, and where the line ends.
     At {
         name_len: usize,
         value: usize,
@@ -64,7 +65,7 @@ enum FieldPlace {
 // runs of such bytes end where the name and the line do.
 fn field_at(kinds: &[u8; 256], head: &[u8], start: usize) -> FieldPlace
     requires { ⌜ (now kinds ≡ table) × (start ≤ length (now head)) ⌝ }
-    ensures { λ r. ⌜ FieldPlaced isName (now (head .entry)) start r ⌝ }
+    ensures { λ r. ⌜ r ≡ placeOf isName (now (head .entry)) start ⌝ }
 {
     let colon = run_end(kinds, Kind::Name, head, start);
     if head.len() <= colon {
@@ -105,11 +106,23 @@ pub enum Fields {
     Refused(u8),
 }
 
+impl Fields {
+    // The number of the refusal.
+    pub fn number(self) -> u8
+        ensures { λ r. ⌜ r ≡ refusalOf (fieldsOutcome self) ⌝ }
+    {
+        match self {
+            Fields::Count(_) => 0,
+            Fields::Refused(n) => n,
+        }
+    }
+}
+
 // The fields of a request's head, which is given without its CR LF CR LF, and whose first line ends at from: how many they are, and in
 // places four numbers for each, the start and length of its name and of its value in head.
 pub fn field_lines(kinds: &[u8; 256], head: &[u8], from: usize, places: &mut [u64]) -> Fields
     requires { ⌜ (now kinds ≡ table) × (from ≡ lineRun (now head)) × (256 ≤ length (now places)) ⌝ }
-    ensures { λ r. ⌜ Stored isName (linesOf (now (head .entry)) .others) (now (head .entry)) (now (places .entry)) (now (places .exit)) r ⌝ }
+    ensures { λ r. ⌜ Stored isName (now (head .entry)) (now (places .entry)) (now (places .exit)) r ⌝ }
 {
     let mut end = from;
     let mut n: usize = 0;

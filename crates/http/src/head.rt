@@ -2,6 +2,7 @@
 ghost use mathlib.Core.Path.{_≡_};
 ghost use Prim.Native.Nat.{_+_, _≤_, _<_};
 ghost use lib.ListN.{length, drop};
+ghost use Rattle.octets.specs.Outcome.{refusalOf};
 ghost use Rattle.http.specs.Head.{endsHead, endFrom, endOption, Passed, headOutcome, headOf};
 
 // Whether CR LF CR LF stands at i.
@@ -72,6 +73,18 @@ fn first_end(s: &[u8]) -> End
 pub enum Head {
     Bytes(usize),
     Refused(u8),
+}
+
+impl Head {
+    // The number of the refusal.
+    pub fn number(self) -> u8
+        ensures { λ r. ⌜ r ≡ refusalOf (headOutcome self) ⌝ }
+    {
+        match self {
+            Head::Bytes(_) => 0,
+            Head::Refused(n) => n,
+        }
+    }
 }
 
 // How many bytes the head at the start of s has, with its CR LF CR LF.

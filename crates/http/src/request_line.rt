@@ -1,9 +1,8 @@
 // The request line: the first line of a head.
 ghost use mathlib.Core.Path.{_≡_};
-ghost use Prim.Native.Nat.{_≤_};
-ghost use lib.ListN.{length};
+ghost use Rattle.octets.specs.Outcome.{refusalOf};
 ghost use Rattle.octets.specs.KindTable.{table};
-ghost use Rattle.http.specs.RequestLine.{isMethod, isVersion, versionOutcome, versionOf, lineOutcome, methodEnd, targetEnd, requestLineOf};
+ghost use Rattle.http.specs.RequestLine.{isMethod, isVersion, versionOutcome, versionOf, lineOutcome, linePlacesOf};
 use octets::compare::same;
 use octets::kinds::Kind;
 use octets::kinds::is_kind;
@@ -52,6 +51,18 @@ enum Version {
     Refused(u8),
 }
 
+impl Version {
+    // The number of the refusal.
+    fn number(self) -> u8
+        ensures { λ r. ⌜ r ≡ refusalOf (versionOutcome self) ⌝ }
+    {
+        match self {
+            Version::Minor(_) => 0,
+            Version::Refused(n) => n,
+        }
+    }
+}
+
 // The digit after `HTTP/1.` of a version that is served.
 fn minor_version(kinds: &[u8; 256], s: &[u8]) -> Version
     requires { ⌜ now kinds ≡ table ⌝ }
@@ -79,10 +90,27 @@ pub enum RequestLine {
     Refused(u8),
 }
 
-// The parts of a request line, which is given without its CR LF.
+impl RequestLine {
+    // The number of the refusal.
+    pub fn number(self) -> u8
+        ensures { λ r. ⌜ r ≡ refusalOf (lineOutcome self) ⌝ }
+    {
+        match self {
+            RequestLine::Line {
+                method_len: _,
+                target: _,
+                target_len: _,
+                minor: _,
+            } => 0,
+            RequestLine::Refused(n) => n,
+        }
+    }
+}
+
+// Where the parts of a request line stand in it, which is given without its CR LF.
 pub fn request_line(kinds: &[u8; 256], line: &[u8]) -> RequestLine
     requires { ⌜ now kinds ≡ table ⌝ }
-    ensures { λ r. ⌜ (lineOutcome (now (line .entry)) r ≡ requestLineOf (now (line .entry))) × (methodEnd r ≤ length (now (line .entry))) × (targetEnd r ≤ length (now (line .entry))) ⌝ }
+    ensures { λ r. ⌜ lineOutcome r ≡ linePlacesOf (now (line .entry)) ⌝ }
 {
     let m = find(line, 0, b' ');
     if line.len() <= m {
@@ -100,10 +128,7 @@ pub fn request_line(kinds: &[u8; 256], line: &[u8]) -> RequestLine
     }
     let v = minor_version(kinds, &line[t + 1..]);
     let Version::Minor(minor) = v else {
-        let Version::Refused(k) = v else {
-            return RequestLine::Refused(0);
-        };
-        return RequestLine::Refused(k);
+        return RequestLine::Refused(v.number());
     };
     RequestLine::Line {
         method_len: m,

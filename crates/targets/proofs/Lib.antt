@@ -4,3 +4,4 @@ pub mod Targets
 pub mod TargetsAccepted
 pub mod Numbers
 pub mod Worked
+pub mod Claims

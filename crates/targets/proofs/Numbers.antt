@@ -1,17 +1,16 @@
--- FOR CALLERS: which number a target can give.
+-- Which number a target can give.
 -- Assumes nothing.
-use Prim.Native.Nat.{ℕ}
-use mathlib.Core.Path.{_≡_}
-use mathlib.Core.Bool.{true}
-use mathlib.Core.List.{List}
-use Rattle.octets.specs.Kinds.{oneOf}
+use mathlib.Core.Path.{refl}
 use Rattle.octets.specs.Scan.{count}
-use Rattle.octets.proofs.Refusals.{Refuses, not-refused, refuses-need}
+use Rattle.octets.proofs.Refusals.{not-refused, only-number, refuses-need}
 use Rattle.targets.specs.Escape.{decoded}
 use Rattle.targets.specs.Target.{pathOf, rawRight, decodedRight, targetOf}
+use Rattle.targets.specs.Claims.{NumbersHold}
 
-pub target-numbers : {ns : List ℕ} → oneOf ns 14 ≡ true → (t : List ℕ) → Refuses ns (targetOf t)
+pub numbers-hold : NumbersHold
 unfolding targetOf
-target-numbers fourteen t =
-    refuses-need (rawRight t) 14 fourteen
-    (refuses-need (decodedRight (count 47 (pathOf t)) (decoded (pathOf t))) 14 fourteen not-refused)
+numbers-hold t n e =
+    only-number n 14
+    (refuses-need (rawRight t) 14 refl
+    (refuses-need (decodedRight (count 47 (pathOf t)) (decoded (pathOf t))) 14 refl not-refused))
+    e

@@ -17,11 +17,9 @@ use Rattle.octets.proofs.Bools.{and-left, and-right, and-false}
 use Rattle.octets.proofs.Scans.{run-le, all-take, all-same-run}
 use Rattle.octets.proofs.Parting.{part-found, part-none}
 use Rattle.octets.proofs.Copies.{over-nil}
-use Rattle.octets.proofs.Copies as copies
 use Rattle.targets.specs.Escape.{escapesRight, decoded}
 use Rattle.targets.specs.Target.{
   pathOf,
-  queryOf,
   rawRight,
   isDots,
   noDots,
@@ -34,10 +32,11 @@ use Rattle.targets.specs.Target.{
   PathRight,
   PathRead,
 }
+use Rattle.targets.specs.Claims.{RawSays}
 use Rattle.targets.specs.declared.target.Raw.the-variants.{Path as RawPath, Refused as RawRefused}
 use Rattle.targets.specs.declared.target.TargetPlace.{TargetPlace}
 use Rattle.targets.specs.declared.target.TargetPlace.the-variants.{Path, Refused}
-use Rattle.targets.proofs.Escapes.{decoded-le, path-escapes}
+use Rattle.targets.proofs.Escapes.{path-escapes}
 
 -- Segments, one at a time.
 
@@ -139,15 +138,6 @@ module _ (t : List ℕ) where
       let d′ : allOf isTarget t ≡ true = all-same-run isTarget t ∙ eq-eqb (run isTarget t) (length t) (omega arith) in
       simp (le-leb 1 (length t) a′, le-leb (length t) 4096 b, eq-eqb _ _ c, d′, e, le-leb (count 47 (pathOf t)) 64 f)
 
--- what a target says that is right as it stands
-pub record RawSays (t : List ℕ) : Type 0 where
-  pub some : 1 ≤ length t
-  pub short : length t ≤ 4096
-  pub start : getD t 0 0 ≡ 47
-  pub bytes : allOf isTarget t ≡ true
-  pub escapes : escapesRight t ≡ true
-  pub slashes : count 47 (pathOf t) ≤ 64
-
 pub raw-says : (t : List ℕ) → rawRight t ≡ true → RawSays t
 unfolding rawRight
 raw-says t e =
@@ -179,10 +169,10 @@ raw-refused t d n = by (rawRight t) refl
     by :
         (x : Bool) → rawRight t ≡ x → cond x (RawPath (length (pathOf t)) (count 47 (pathOf t))) (RawRefused 14) ≡ RawRefused n
         → TargetRead t d d (Refused n)
-    by true q e = record { answer = cc; measured = tt; buffer = cc }
+    by true q e = record { answer = cc; buffer = cc }
     by false q e =
         let k : n ≡ 14 = cc in
-        record { answer = rw (q, k); measured = tt; buffer = rw q (sym (over-nil d 0)) }
+        record { answer = rw (q, k); buffer = rw q (sym (over-nil d 0)) }
 
 record RawGives (t : List ℕ) (k n : ℕ) : Type 0 where
   right : rawRight t ≡ true
@@ -241,24 +231,12 @@ module _ (t d : List ℕ) (k n : ℕ) (e : rawOf t ≡ RawPath k n) (room : min 
     whole-buffer : d′ ≡ over d 0 (written t)
     whole-buffer = rw (raw-gives t k n e .right) path-buffer
 
-    decoded-room : 0 + length (decoded (pathOf t)) ≤ length d
-    decoded-room =
-        omega (arith, decoded-le 0 (pathOf t), path-length t, run-le (other 63) t, raw-says t (raw-gives t k n e .right) .short)
-
-    front : take (length (decoded (pathOf t))) d′ ≡ decoded (pathOf t)
-    front = rw (path-buffer, ← zero-add (length (decoded (pathOf t)))) (copies.before d 0 (decoded (pathOf t)) decoded-room)
-
     pub target-read : TargetRead t d d′ r
-    unfolding targetOf queryOf
+    unfolding targetOf
     target-read = rw path-answer (by (decodedRight (count 47 (pathOf t)) (decoded (pathOf t))) refl)
       where
         by :
             (x : Bool) → decodedRight (count 47 (pathOf t)) (decoded (pathOf t)) ≡ x
             → TargetRead t d d′ (cond x (Path (length (pathOf t)) (length (decoded (pathOf t)))) (Refused 14))
-        by true q =
-            record {
-              answer = rw (raw-gives t k n e .right, q, front, path-length t);
-              measured = (refl, refl);
-              buffer = whole-buffer;
-            }
-        by false q = record { answer = rw (raw-gives t k n e .right, q); measured = tt; buffer = whole-buffer }
+        by true q = record { answer = rw (raw-gives t k n e .right, q); buffer = whole-buffer }
+        by false q = record { answer = rw (raw-gives t k n e .right, q); buffer = whole-buffer }

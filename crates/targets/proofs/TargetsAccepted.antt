@@ -1,4 +1,4 @@
--- What callers need of targets: what an accepted target says, that it has no NUL, and what is left of the lent buffer.
+-- What an accepted target says, that it has no NUL, and what the lengths of an answer say.
 -- Assumes nothing.
 use Prim.Native.Nat.{ℕ, min, _+_, _≤_}
 use mathlib.Core.Path.{_≡_, refl, sym, ap, _∙_}
@@ -8,17 +8,17 @@ use native.Mathlib.Omega.{arith}
 use lib.Dec.{eqb}
 use lib.ListN.{length, take, drop, getD}
 use borrow.Author.Tests.{eqb-true}
-use Rattle.octets.specs.Outcome.{gives}
+use Rattle.octets.specs.Outcome.{Outcome, refused, gives, then}
 use Rattle.octets.specs.Kinds.{isDigit, isLetter, isTarget}
 use Rattle.octets.specs.Scan.{run, other, allOf, count}
 use Rattle.octets.specs.Lists.{NoNul}
-use Rattle.octets.specs.Copy.{over}
-use Rattle.octets.proofs.Outcomes.{need-gives}
+use Rattle.octets.proofs.Outcomes.{Gave, need-gives, then-gives, gives-once}
 use Rattle.octets.proofs.Bools.{and-left, and-right}
 use Rattle.octets.proofs.Lists.{there}
 use Rattle.octets.proofs.Scans.{run-le, all-drop}
 use Rattle.octets.proofs.Alls.{all-without}
-use Rattle.octets.proofs.Copies.{length-over, over-rest}
+use Rattle.octets.proofs.Copies.{length-over}
+use Rattle.octets.proofs.Copies as copies
 use Rattle.targets.specs.Escape.{decodedFrom, decoded}
 use Rattle.targets.specs.Target.{
   Target,
@@ -29,25 +29,14 @@ use Rattle.targets.specs.Target.{
   segmentsRight,
   decodedRight,
   targetOf,
+  Lengths,
   written,
   TargetRead,
 }
-use Rattle.targets.specs.declared.target.TargetPlace.{TargetPlace}
-use Rattle.targets.specs.declared.target.TargetPlace.the-variants.{Path}
+use Rattle.targets.specs.Claims.{Accepted, Told}
+use Rattle.targets.specs.declared.target.TargetPlace.the-variants.{Path, Refused}
 use Rattle.targets.proofs.Escapes.{decoded-le}
-use Rattle.targets.proofs.Targets.{RawSays, raw-says, path-length}
-
--- the target t is accepted with the path and the query of x
-pub record Accepted (t : List ℕ) (x : Target) : Type 0 where
-  pub raw : RawSays t
-  pub path-is : x .path ≡ decoded (pathOf t)
-  pub query-is : x .query ≡ queryOf t
-  pub path-start : getD (x .path) 0 0 ≡ 47
-  pub path-some : 1 ≤ length (x .path)
-  pub path-le : length (x .path) ≤ length t
-  pub path-slashes : count 47 (x .path) ≤ 64
-  pub path-plain : allOf isPlain (x .path) ≡ true
-  pub path-segments : segmentsRight (x .path) ≡ true
+use Rattle.targets.proofs.Targets.{raw-says, path-length}
 
 decoded-start : (t : List ℕ) → getD t 0 0 ≡ 47 → getD (decoded (pathOf t)) 0 0 ≡ 47
 unfolding pathOf run decodedFrom
@@ -56,6 +45,20 @@ decoded-start (b ∷ t) e = rw e
 
 decoded-path-le : (t : List ℕ) → length (decoded (pathOf t)) ≤ length t
 decoded-path-le t = omega (arith, decoded-le 0 (pathOf t), path-length t, run-le (other 63) t)
+
+-- No NUL, for a writer of names and values that NULs end.
+
+nul-is-none : isTarget 0 ≡ false
+unfolding isTarget isLetter isDigit
+nul-is-none = refl
+
+module _ (t : List ℕ) (bytes : allOf isTarget t ≡ true) where
+  target-no-nul : NoNul t
+  target-no-nul = all-without isTarget 0 t nul-is-none bytes
+
+  query-no-nul : NoNul (queryOf t)
+  unfolding queryOf
+  query-no-nul = all-without isTarget 0 (queryOf t) nul-is-none (all-drop isTarget (run (other 63) t + 1) t bytes)
 
 pub accepted : (t : List ℕ) (x : Target) → targetOf t ≡ gives x → Accepted t x
 unfolding targetOf decodedRight
@@ -81,67 +84,77 @@ accepted t x e =
       path-slashes = rw path (omega (arith, eqb-true (count 47 p) (count 47 (pathOf t)) (and-left a b ab), raw .slashes));
       path-plain = rw path (and-right a b ab);
       path-segments = rw path (and-right (a && b) g (d .0));
+      target-no-nul = target-no-nul t (raw .bytes);
+      path-no-nul = rw path (all-without isPlain 0 p refl (and-right a b ab));
+      query-no-nul = rw query (query-no-nul t (raw .bytes));
     }
 
--- No NUL, for a writer of names and values that NULs end.
+-- The buffer: what is written fits, and of an accepted target it is the decoded path.
 
-module _ (t : List ℕ) (x : Target) (a : Accepted t x) where
-  nul-is-none : isTarget 0 ≡ false
-  unfolding isTarget isLetter isDigit
-  nul-is-none = refl
-
-  pub target-no-nul : NoNul t
-  target-no-nul = all-without isTarget 0 t nul-is-none (a .raw .bytes)
-
-  pub query-no-nul : NoNul (x .query)
-  unfolding queryOf
-  query-no-nul =
-      rw (a .query-is)
-      (all-without isTarget 0 (queryOf t) nul-is-none (all-drop isTarget (run (other 63) t + 1) t (a .raw .bytes)))
-
-  pub path-no-nul : NoNul (x .path)
-  path-no-nul = all-without isPlain 0 (x .path) refl (a .path-plain)
-
--- The buffer: what is written fits, and the bytes behind it are as they were.
-
-pub written-le : (t : List ℕ) → length (written t) ≤ length t
+written-le : (t : List ℕ) → length (written t) ≤ length t
 written-le t = by (rawRight t)
   where
     by : (x : Bool) → length (cond x (decoded (pathOf t)) []) ≤ length t
     by true = decoded-path-le t
     by false = omega arith
 
-pub written-short : (t : List ℕ) → length (written t) ≤ 4096
+written-short : (t : List ℕ) → length (written t) ≤ 4096
 written-short t = by (rawRight t) refl
   where
     by : (x : Bool) → rawRight t ≡ x → length (cond x (decoded (pathOf t)) []) ≤ 4096
     by true e = omega (arith, decoded-path-le t, raw-says t e .short)
     by false e = omega arith
 
-module _ (t d d′ : List ℕ) (r : TargetPlace) (room : min (length t) 4096 ≤ length d) (w : TargetRead t d d′ r) where
-  pub buffer-length : length d′ ≡ length d
-  buffer-length = ap length (w .buffer) ∙ length-over d 0 (written t) (omega (arith, written-short t, written-le t))
-
-  pub buffer-rest : (n : ℕ) → length t ≤ n → drop n d′ ≡ drop n d
-  buffer-rest n h = ap (drop n) (w .buffer) ∙ over-rest d 0 (written t) (omega (arith, written-short t, written-le t)) n (omega (arith, written-le t))
-
--- .. and of an accepted target it is the decoded path
-pub buffer-path :
-    (t d d′ : List ℕ) (k n : ℕ) → TargetRead t d d′ (Path k n) → d′ ≡ over d 0 (decoded (pathOf t))
+written-path : (t : List ℕ) (x : Target) → targetOf t ≡ gives x → written t ≡ decoded (pathOf t)
 unfolding targetOf
-buffer-path t d d′ k n w =
-    let r : rawRight t ≡ true = need-gives (rawRight t) 14 _ _ (sym (w .answer)) .0 in
-    w .buffer ∙ rw r
+written-path t x e = rw (need-gives (rawRight t) 14 _ x e .0)
 
--- What an answer that tells lengths says.
+-- What an answer says.
 
 module _ (t d d′ : List ℕ) (k n : ℕ) (room : min (length t) 4096 ≤ length d) (w : TargetRead t d d′ (Path k n)) where
-  pub read-accepted : Accepted t (record { path = take n d′; query = drop (k + 1) t })
-  read-accepted = accepted t _ (sym (w .answer))
+  abbrev lengths : Target → Lengths
+  lengths x = record { path = length (pathOf t); decoded = length (x .path) }
 
-  pub path-within : k ≤ length t
-  path-within = omega (arith, w .measured .0, path-length t, run-le (other 63) t)
+  gave : Gave (targetOf t) (λ x. gives (lengths x)) (record { path = k; decoded = n })
+  gave = then-gives (targetOf t) (λ x. gives (lengths x)) (record { path = k; decoded = n }) (sym (w .answer))
 
-  pub decoded-within : n ≤ length d′
-  decoded-within =
-      omega (arith, w .measured .1, decoded-path-le t, read-accepted .raw .short, buffer-length t d d′ (Path k n) room w)
+  says : Accepted t (gave .it)
+  says = accepted t (gave .it) (gave .first)
+
+  same : lengths (gave .it) ≡ record { path = k; decoded = n }
+  same = gives-once _ _ (gave .next)
+
+  path-told : k ≡ length (pathOf t)
+  path-told = ap (λ (l : Lengths). l .path) (sym same)
+
+  decoded-told : n ≡ length (decoded (pathOf t))
+  decoded-told = ap (λ (l : Lengths). l .decoded) (sym same) ∙ ap length (says .path-is)
+
+  fits : 0 + length (written t) ≤ length d
+  fits = omega (arith, written-short t, written-le t)
+
+  front : take n d′ ≡ decoded (pathOf t)
+  front =
+      let e : n ≡ 0 + length (written t) = omega (arith, decoded-told, ap length (written-path t (gave .it) (gave .first))) in
+      rw (w .buffer, e) (copies.before d 0 (written t) fits) ∙ written-path t (gave .it) (gave .first)
+
+  query : drop (k + 1) t ≡ queryOf t
+  unfolding queryOf
+  query = ap (λ (m : ℕ). drop (m + 1) t) (path-told ∙ path-length t)
+
+  pub told : Told t d′ k n
+  told =
+      record {
+        answer = sym (gave .first ∙ rw (front, query, ← says .path-is, ← says .query-is));
+        path-length = path-told;
+        path-inside = omega (arith, path-told, path-length t, run-le (other 63) t);
+        decoded-length = decoded-told;
+        decoded-inside = omega (arith, decoded-told, decoded-path-le t, says .raw .short, ap length (w .buffer) ∙ length-over d 0 (written t) fits);
+      }
+
+pub refused-told : (t d d′ : List ℕ) (n : ℕ) → TargetRead t d d′ (Refused n) → refused n ≡ targetOf t
+refused-told t d d′ n w = by (targetOf t) (w .answer)
+  where
+    by : (o : Outcome Target) → _≡_ {A = Outcome Lengths} (refused n) (then o (λ x. gives (record { path = length (pathOf t); decoded = length (x .path) }))) → refused n ≡ o
+    by (refused m) e = cc
+    by (gives x) e = cc

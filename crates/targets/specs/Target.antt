@@ -7,7 +7,7 @@ use mathlib.Core.List.{List, [], _∷_}
 use lib.Dec.{eqb, leb}
 use lib.ListN.{length, take, drop, getD}
 use Rattle.octets.specs.Text.{bytes}
-use Rattle.octets.specs.Outcome.{Outcome, refused, gives, need}
+use Rattle.octets.specs.Outcome.{Outcome, refused, gives, then, need}
 use Rattle.octets.specs.Kinds.{isTarget}
 use Rattle.octets.specs.Scan.{run, other, allOf, count}
 use Rattle.octets.specs.Compare.{sameBytes}
@@ -67,15 +67,23 @@ targetOf t =
     (need (decodedRight (count 47 (pathOf t)) (decoded (pathOf t))) 14
     (gives (record { path = decoded (pathOf t); query = queryOf t })))
 
--- what an answer says, where after is the lent buffer: the decoded path at its front, and what stands after the path in the target t
-abbrev pub targetOutcome : List ℕ → List ℕ → TargetPlace → Outcome Target
-targetOutcome t after (Path n d) = gives (record { path = take d after; query = drop (n + 1) t })
-targetOutcome t after (Refused n) = refused n
+-- how long the path of a target is, and how long it is decoded
+pub record Lengths : Type 0 where
+  pub path : ℕ
+  pub decoded : ℕ
 
--- the lengths that an answer tells are those of the path and of the decoded path
-abbrev pub Measured : List ℕ → TargetPlace → Type 0
-Measured t (Path n d) = (n ≡ length (pathOf t)) × (d ≡ length (decoded (pathOf t)))
-Measured t (Refused n) = Unit {0}
+-- what the code's answers say
+abbrev pub targetOutcome : TargetPlace → Outcome Lengths
+targetOutcome (Path n d) = gives (record { path = n; decoded = d })
+targetOutcome (Refused n) = refused n
+
+abbrev pub rawOutcome : Raw → Outcome ℕ
+rawOutcome (RawPath n slashes) = gives n
+rawOutcome (RawRefused n) = refused n
+
+-- .. of the target t
+abbrev pub lengthsOf : List ℕ → Outcome Lengths
+lengthsOf t = then (targetOf t) (λ x. gives (record { path = length (pathOf t); decoded = length (x .path) }))
 
 -- what is written to the buffer: nothing where the target is refused as it stands, else the decoded path, also where that is refused
 abbrev pub written : List ℕ → List ℕ
@@ -83,8 +91,7 @@ written t = cond (rawRight t) (decoded (pathOf t)) []
 
 -- the answer r, and the buffer before and after, are those of the target t
 pub record TargetRead (t before after : List ℕ) (r : TargetPlace) : Type 0 where
-  pub answer : targetOutcome t after r ≡ targetOf t
-  pub measured : Measured t r
+  pub answer : targetOutcome r ≡ lengthsOf t
   pub buffer : after ≡ over before 0 (written t)
 
 -- For the step that judges a target as it stands: the length of its path, and how many slashes the path has.

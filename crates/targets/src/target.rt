@@ -4,11 +4,12 @@ ghost use mathlib.Core.Bool.{true, cond};
 ghost use Prim.Native.Nat.{min, _≤_};
 ghost use lib.Dec.{eqb};
 ghost use lib.ListN.{length};
+ghost use Rattle.octets.specs.Outcome.{refusalOf};
 ghost use Rattle.octets.specs.KindTable.{table};
 ghost use Rattle.octets.specs.Kinds.{isTarget};
 ghost use Rattle.octets.specs.Scan.{count, allOf, other};
 ghost use Rattle.targets.specs.Escape.{escapesRight};
-ghost use Rattle.targets.specs.Target.{isPlain, isDots, segmentsRight, decodedRight, rawOf, PathRight, PathRead, TargetRead};
+ghost use Rattle.targets.specs.Target.{isPlain, isDots, segmentsRight, decodedRight, rawOutcome, rawOf, PathRight, PathRead, targetOutcome, TargetRead};
 use crate::escape::decode;
 use crate::escape::escapes;
 use octets::compare::same;
@@ -24,10 +25,40 @@ pub enum TargetPlace {
     Refused(u8),
 }
 
+impl TargetPlace {
+    // The number of the refusal.
+    pub fn number(self) -> u8
+        ensures { λ r. ⌜ r ≡ refusalOf (targetOutcome self) ⌝ }
+    {
+        match self {
+            TargetPlace::Path {
+                path_len: _,
+                decoded_len: _,
+            } => 0,
+            TargetPlace::Refused(n) => n,
+        }
+    }
+}
+
 // What a target is found to be before it is decoded.
 enum Raw {
     Path { path_len: usize, slashes: usize },
     Refused(u8),
+}
+
+impl Raw {
+    // The number of the refusal.
+    fn number(self) -> u8
+        ensures { λ r. ⌜ r ≡ refusalOf (rawOutcome self) ⌝ }
+    {
+        match self {
+            Raw::Path {
+                path_len: _,
+                slashes: _,
+            } => 0,
+            Raw::Refused(n) => n,
+        }
+    }
 }
 
 // One for a slash, none for another byte.
@@ -194,10 +225,7 @@ pub fn target(t: &[u8], path: &mut [u8]) -> TargetPlace
     let kinds = octets::kind_table::kinds();
     let raw = raw_path(&kinds, t);
     let Raw::Path { path_len, slashes } = raw else {
-        let Raw::Refused(n) = raw else {
-            return TargetPlace::Refused(0);
-        };
-        return TargetPlace::Refused(n);
+        return TargetPlace::Refused(raw.number());
     };
     read_path(&t[..path_len], slashes, path)
 }

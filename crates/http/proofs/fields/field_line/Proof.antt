@@ -1,16 +1,23 @@
 -- `http::fields::field_line` meets its contract.
 -- Assumes nothing.
-use mathlib.Core.Path.{sym}
-use Prim.Native.Nat.{_+_, _≤_}
+use mathlib.Core.Path.{_≡_, sym, ap}
+use mathlib.Core.Bool.{Bool}
+use mathlib.Core.List.{List}
+use mathlib.Core.Option.{Option, none}
+use Prim.Native.Nat.{ℕ, _+_, _≤_}
 use lib.ListN.{length, drop, length-drop}
 use Rattle.octets.specs.Kinds.{isBlank}
 use Rattle.octets.proofs.Scans.{run-within}
 use Rattle.octets.proofs.Trims.{kept-le}
+use Rattle.http.specs.Fields.{Field, fieldOf, numbersIf, numbersOf}
 use Rattle.http.proofs.FieldLines.{no-colon, no-name, bad-name, bad-value, whole}
 use native.Mathlib.Omega.{arith}
 use borrow.Author.Needs.{needs}
 use Rattle.http.proofs.fields.field_line.Statement.{statement}
 use Rattle.http.proofs.fields.field_line.Tie as tie
+
+malformed : (rule : ℕ → Bool) (line : List ℕ) → fieldOf rule line ≡ none → none ≡ numbersOf rule line
+malformed rule line e = sym (ap (λ (o : Option Field). numbersIf o line) e)
 
 -- the value lies within the line
 value-in : (c : tie.After-blank-end) → c .blank-end .result ≤ length (c .before .before .before .before .before .before .before .args .line .now)
@@ -26,16 +33,16 @@ find-requires : tie.Need-find-requires
 find-requires c κs = search needs
 
 returns : tie.Need-returns
-returns c = (sym (no-colon _ _ _ (c .before .find .ensures) (c .if1 .taken)), omega arith, omega arith)
+returns c = malformed _ _ (no-colon _ _ _ (c .before .find .ensures) (c .if1 .taken))
 
 returns-2 : tie.Need-returns-2
-returns-2 c = (sym (no-name _ _ _ (c .before .before .find .ensures) (c .if2 .taken)), omega arith, omega arith)
+returns-2 c = malformed _ _ (no-name _ _ _ (c .before .before .find .ensures) (c .if2 .taken))
 
 run-end-requires : tie.Need-run-end-requires
 run-end-requires c κs = search needs
 
 returns-3 : tie.Need-returns-3
-returns-3 c = (sym (bad-name _ _ _ (c .before .before .before .before .find .ensures) (c .before .before .before .if1 .left) _ (c .before .run-end .ensures) (c .if3 .taken)), omega arith, omega arith)
+returns-3 c = malformed _ _ (bad-name _ _ _ (c .before .before .before .before .find .ensures) (c .before .before .before .if1 .left) _ (c .before .run-end .ensures) (c .if3 .taken))
 
 add-blank-end : tie.Need-add-blank-end
 add-blank-end c = search needs
@@ -54,14 +61,11 @@ add-if4 c = omega (arith, end-in (c .before))
 
 returns-4 : tie.Need-returns-4
 returns-4 c =
-    (sym (bad-value _ _ _ (c .before .before .before .before .before .before .before .before .find .ensures) (c .before .before .before .before .before .before .before .if1 .left) _ _ (c .before .before .before .blank-end .ensures) (c .before .before .kept-len .ensures) _ (c .before .run-end2 .ensures) (c .if4 .taken)), omega arith, omega arith)
+    malformed _ _ (bad-value _ _ _ (c .before .before .before .before .before .before .before .before .find .ensures) (c .before .before .before .before .before .before .before .if1 .left) _ _ (c .before .before .before .blank-end .ensures) (c .before .before .kept-len .ensures) _ (c .before .run-end2 .ensures) (c .if4 .taken))
 
 returns-5 : tie.Need-returns-5
-returns-5 c = (
-  sym (whole _ _ _ (c .before .before .before .before .before .before .before .before .find .ensures) (c .before .before .before .before .before .before .before .if1 .left) _ _ (c .before .before .before .blank-end .ensures) (c .before .before .kept-len .ensures) (c .before .before .before .before .before .before .if2 .left) (omega (arith, c .before .before .before .before .before .run-end .ensures, c .before .before .before .before .if3 .left)) (omega (arith, c .before .run-end2 .ensures, c .if4 .left))),
-  omega arith,
-  end-in (c .before .before),
-)
+returns-5 c =
+    sym (whole _ _ _ (c .before .before .before .before .before .before .before .before .find .ensures) (c .before .before .before .before .before .before .before .if1 .left) _ _ (c .before .before .before .blank-end .ensures) (c .before .before .kept-len .ensures) (c .before .before .before .before .before .before .if2 .left) (omega (arith, c .before .before .before .before .before .run-end .ensures, c .before .before .before .before .if3 .left)) (omega (arith, c .before .run-end2 .ensures, c .if4 .left)))
 
 pub field-line-spec : {M : Type 1} → statement M
 field-line-spec =

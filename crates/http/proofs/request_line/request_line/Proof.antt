@@ -22,7 +22,7 @@ find-requires : tie.Need-find-requires
 find-requires c κs = search needs
 
 returns : tie.Need-returns
-returns c = (sym (one-part _ _ (c .before .find .ensures) (c .if1 .taken)), omega arith, omega arith)
+returns c = sym (one-part _ _ (c .before .find .ensures) (c .if1 .taken))
 
 add-find : tie.Need-add-find
 add-find c = search needs
@@ -31,7 +31,7 @@ find-requires-2 : tie.Need-find-requires-2
 find-requires-2 c κs = search needs
 
 returns-2 : tie.Need-returns-2
-returns-2 c = (sym (two-parts _ _ (c .before .before .before .find .ensures) (c .before .before .if1 .left) _ (c .before .find2 .ensures) (c .if2 .taken)), omega arith, omega arith)
+returns-2 c = sym (two-parts _ _ (c .before .before .before .find .ensures) (c .before .before .if1 .left) _ (c .before .find2 .ensures) (c .if2 .taken))
 
 add-find-2 : tie.Need-add-find-2
 add-find-2 c = search needs
@@ -41,7 +41,7 @@ find-requires-3 c κs = search needs
 
 returns-3 : tie.Need-returns-3
 returns-3 c =
-    (sym (four-parts _ _ (c .before .before .before .before .before .find .ensures) (c .before .before .before .before .if1 .left) _ (c .before .before .before .find2 .ensures) (c .before .before .if2 .left) _ (c .before .find3 .ensures) (c .if3 .taken)), omega arith, omega arith)
+    sym (four-parts _ _ (c .before .before .before .before .before .find .ensures) (c .before .before .before .before .if1 .left) _ (c .before .before .before .find2 .ensures) (c .before .before .if2 .left) _ (c .before .find3 .ensures) (c .if3 .taken))
 
 slice-aggregate-is-method : tie.Need-slice-aggregate-is-method
 slice-aggregate-is-method c = sym (length-take-le (c .before .before .before .before .before .before .find .result) (c .before .before .before .before .before .before .before .before .args .line .now) (omega arith))
@@ -52,7 +52,7 @@ is-method-requires c κs = search needs
 returns-4 : tie.Need-returns-4
 returns-4 c =
     let d = c .before .before .before .before in
-    (sym (no-method _ _ (d .before .before .before .before .find .ensures) (d .before .before .before .if1 .left) _ (d .before .before .find2 .ensures) (d .before .if2 .left) _ (d .find3 .ensures) (c .before .before .before .if3 .left) (sym (c .before .is-method .ensures) ∙ not-true _ (c .if4 .taken))), omega arith, omega arith)
+    sym (no-method _ _ (d .before .before .before .before .find .ensures) (d .before .before .before .if1 .left) _ (d .before .before .find2 .ensures) (d .before .if2 .left) _ (d .find3 .ensures) (c .before .before .before .if3 .left) (sym (c .before .is-method .ensures) ∙ not-true _ (c .if4 .taken)))
 
 add-minor-version : tie.Need-add-minor-version
 add-minor-version c = search needs
@@ -72,38 +72,34 @@ minor-version-requires c κs = search needs
 enum-known-v : tie.Need-enum-known-v
 enum-known-v c = search needs
 
-enum-known-v-2 : tie.Need-enum-known-v-2
-enum-known-v-2 c = search needs
-
-enum-known-v-3 : tie.Need-enum-known-v-3
-enum-known-v-3 c = search needs
-
 enum-told : tie.Need-enum-told
 enum-told c = search needs
 
+number-requires : tie.Need-number-requires
+number-requires c κs = search needs
+
 returns-5 : tie.Need-returns-5
-returns-5 c = search needs
-
-returns-6 : tie.Need-returns-6
-returns-6 c =
-    let d = c .before .before .before .before .before .before in
+returns-5 c =
+    let v = c .before .enum-told .given .1 in
+    let d = c .before .before .before in
     let f = d .before .before .before .before .before .before in
-    (sym (bad-version _ _ (f .before .before .before .before .find .ensures) (f .before .before .before .if1 .left) _ (f .before .before .find2 .ensures) (f .before .if2 .left) _ (f .find3 .ensures) (d .before .before .before .before .before .if3 .left) (sym (d .before .before .before .is-method .ensures) ∙ not-false _ (d .before .before .if4 .left)) _ (version-is d ∙ ap versionOutcome (c .before .before .before .before .v2 .given .1 ∙ c .before .v3 .given .1))), omega arith, omega arith)
-
-add-t11 : tie.Need-add-t11
-add-t11 c = search needs
+    rw (c .number .ensures, v)
+    (sym (bad-version _ _ (f .before .before .before .before .find .ensures) (f .before .before .before .if1 .left) _ (f .before .before .find2 .ensures) (f .before .if2 .left) _ (f .find3 .ensures) (d .before .before .before .before .before .if3 .left) (sym (d .before .before .before .is-method .ensures) ∙ not-false _ (d .before .before .if4 .left)) _ (version-is d ∙ ap versionOutcome v)))
 
 add-t10 : tie.Need-add-t10
 add-t10 c = search needs
 
-sub-t8 : tie.Need-sub-t8
-sub-t8 c = search needs
+add-t7 : tie.Need-add-t7
+add-t7 c = search needs
 
-returns-7 : tie.Need-returns-7
-returns-7 c =
+sub-t9 : tie.Need-sub-t9
+sub-t9 c = search needs
+
+returns-6 : tie.Need-returns-6
+returns-6 c =
     let d = c .before .before .before in
     let f = d .before .before .before .before .before .before in
-    (sym (whole _ _ (f .before .before .before .before .find .ensures) (f .before .before .before .if1 .left) _ (f .before .before .find2 .ensures) (f .before .if2 .left) _ (f .find3 .ensures) (d .before .before .before .before .before .if3 .left) (sym (d .before .before .before .is-method .ensures) ∙ not-false _ (d .before .before .if4 .left)) _ (version-is d ∙ ap versionOutcome (c .before .v .given .1))), omega arith, omega arith)
+    sym (whole _ _ (f .before .before .before .before .find .ensures) (f .before .before .before .if1 .left) _ (f .before .before .find2 .ensures) (f .before .if2 .left) _ (f .find3 .ensures) (d .before .before .before .before .before .if3 .left) (sym (d .before .before .before .is-method .ensures) ∙ not-false _ (d .before .before .if4 .left)) _ (version-is d ∙ ap versionOutcome (c .before .v .given .1)))
 
 pub request-line-spec : {M : Type 1} → statement M
 request-line-spec =
@@ -126,12 +122,10 @@ request-line-spec =
     part-minor-version-end
     minor-version-requires
     enum-known-v
-    enum-known-v-2
-    enum-known-v-3
     enum-told
+    number-requires
     returns-5
-    returns-6
-    add-t11
+    add-t7
     add-t10
-    sub-t8
-    returns-7)
+    sub-t9
+    returns-6)

@@ -21,20 +21,16 @@ raw-path-requires c κs = search needs
 enum-known-raw : tie.Need-enum-known-raw
 enum-known-raw c = search needs
 
-enum-known-raw-2 : tie.Need-enum-known-raw-2
-enum-known-raw-2 c = search needs
-
-enum-known-raw-3 : tie.Need-enum-known-raw-3
-enum-known-raw-3 c = search needs
-
 enum-told : tie.Need-enum-told
 enum-told c = search needs
 
-returns : tie.Need-returns
-returns c = search needs
+number-requires : tie.Need-number-requires
+number-requires c κs = search needs
 
-returns-2 : tie.Need-returns-2
-returns-2 c = raw-refused _ _ _ (sym (c .before .before .before .before .before .before .raw-path .ensures) ∙ c .before .before .before .before .raw2 .given .1 ∙ c .before .raw3 .given .1)
+returns : tie.Need-returns
+returns c =
+    let e = c .before .enum-told .given .1 in
+    rw (c .number .ensures, e) (raw-refused _ _ _ (sym (c .before .before .before .raw-path .ensures) ∙ e))
 
 slice-aggregate-read-path : tie.Need-slice-aggregate-read-path
 slice-aggregate-read-path c =
@@ -50,8 +46,8 @@ read-path-requires c κs =
 same-length : tie.Need-same-length
 same-length c = search needs
 
-returns-3 : tie.Need-returns-3
-returns-3 c = target-read _ _ _ _ (got (c .before .before .before .before .before .before)) (c .before .before .before .before .before .before .before .before .before .before .before .before .before .pre) _ _ (c .before .before .read-path .ensures)
+returns-2 : tie.Need-returns-2
+returns-2 c = target-read _ _ _ _ (got (c .before .before .before .before .before .before)) (c .before .before .before .before .before .before .before .before .before .before .before .before .before .pre) _ _ (c .before .before .read-path .ensures)
 
 pub target-spec : {M : Type 1} → statement M
 target-spec =
@@ -60,12 +56,10 @@ target-spec =
     kinds-requires
     raw-path-requires
     enum-known-raw
-    enum-known-raw-2
-    enum-known-raw-3
     enum-told
+    number-requires
     returns
-    returns-2
     slice-aggregate-read-path
     read-path-requires
     same-length
-    returns-3)
+    returns-2)
