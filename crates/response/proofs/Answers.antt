@@ -38,7 +38,8 @@ use Rattle.response.specs.Table.{
   redirectsWithDocument,
   hasDocument,
   statusOr,
-  answerWith,
+  statusFor,
+  answerFor,
   tableOf,
   goesTo,
   startOr0,
@@ -55,12 +56,6 @@ use Rattle.response.proofs.Seens.{named-in}
 
 -- The table.
 
-abbrev pub statusFor : Action → Script → ℕ
-statusFor Serve x = 0
-statusFor Redirect x = 302
-statusFor RedirectDocument x = statusOr 0 (x .status)
-statusFor Document x = statusOr 200 (x .status)
-
 pub record InRow (x : Script) (a : Answer) : Type 0 where
   pub fits : rowOf (a .action) x ≡ true
   pub status-is : a .status ≡ statusFor (a .action) x
@@ -69,7 +64,7 @@ pub record InRow (x : Script) (a : Answer) : Type 0 where
   pub body-start : a .bodyStart ≡ x .bodyStart
   pub body-length : a .bodyLength ≡ x .bodyLength
 
-row-of : (x : Script) (a : Answer) (act : Action) → rowOf act x ≡ true → answerWith x act (statusFor act x) ≡ gives a → InRow x a
+row-of : (x : Script) (a : Answer) (act : Action) → rowOf act x ≡ true → answerFor x act ≡ gives a → InRow x a
 row-of x a act f e =
     let z : a ≡ record { action = act; status = statusFor act x; locationStart = x .locationStart; locationLength = x .locationLength; bodyStart = x .bodyStart; bodyLength = x .bodyLength } = cc in
     rw z (record { fits = f; status-is = refl; location-start = refl; location-length = refl; body-start = refl; body-length = refl })
@@ -80,9 +75,8 @@ in-row x a = by (serves x) (redirects x) (redirectsWithDocument x) (hasDocument 
   where
     by :
         (p q r d : Bool) → serves x ≡ p → redirects x ≡ q → redirectsWithDocument x ≡ r → hasDocument x ≡ d
-        → cond p (answerWith x Serve 0)
-        (cond q (answerWith x Redirect 302)
-        (cond r (answerWith x RedirectDocument (statusOr 0 (x .status))) (cond d (answerWith x Document (statusOr 200 (x .status))) (refused 25))))
+        → cond p (answerFor x Serve)
+        (cond q (answerFor x Redirect) (cond r (answerFor x RedirectDocument) (cond d (answerFor x Document) (refused 25))))
         ≡ gives a → InRow x a
     by true q r d hp hq hr hd e = row-of x a Serve hp e
     by false true r d hp hq hr hd e = row-of x a Redirect hq e
@@ -281,9 +275,8 @@ no-row x = by (serves x) (redirects x) (redirectsWithDocument x) (hasDocument x)
   where
     by :
         (p q r d : Bool) → howMany (p ∷ q ∷ r ∷ d ∷ []) ≡ 0
-        → cond p (answerWith x Serve 0)
-        (cond q (answerWith x Redirect 302)
-        (cond r (answerWith x RedirectDocument (statusOr 0 (x .status))) (cond d (answerWith x Document (statusOr 200 (x .status))) (refused 25))))
+        → cond p (answerFor x Serve)
+        (cond q (answerFor x Redirect) (cond r (answerFor x RedirectDocument) (cond d (answerFor x Document) (refused 25))))
         ≡ refused 25
     by true q r d e = cc
     by false true r d e = cc
@@ -309,9 +302,8 @@ table-known n x = by (serves x) (redirects x) (redirectsWithDocument x) (hasDocu
   where
     by :
         (p q r d : Bool)
-        → cond p (answerWith x Serve 0)
-        (cond q (answerWith x Redirect 302)
-        (cond r (answerWith x RedirectDocument (statusOr 0 (x .status))) (cond d (answerWith x Document (statusOr 200 (x .status))) (refused 25))))
+        → cond p (answerFor x Serve)
+        (cond q (answerFor x Redirect) (cond r (answerFor x RedirectDocument) (cond d (answerFor x Document) (refused 25))))
         ≡ refused n → Known n
     by true q r d e = cc
     by false true r d e = cc

@@ -1,11 +1,22 @@
 -- Each claim of specs/Claims.antt, proved. Crates above cite this file and no other of this folder.
 -- Assumes nothing.
-use Rattle.response.specs.Claims.{TableHolds, NumbersHold, StatusHolds, DocumentIs200, ServedIsTarget, LocationStands, PlacesWithin}
+use Rattle.response.specs.Claims.{TableHolds, NumbersHold, StatusHolds, DocumentIs200, ServedIsTarget, LocationStands, PlacesWithin, StreamSettles}
 use Rattle.response.proofs.Answers as Answers
+use Rattle.response.proofs.Rows as Rows
+use Rattle.response.proofs.Streams as Streams
 
 pub table-holds : TableHolds
 table-holds =
-    record { exclude = Answers.exclude; row-fits = λ x a e. Answers.in-row x a e .fits; else-25 = Answers.no-row }
+    record {
+      exclude = Answers.exclude;
+      serve = Rows.serve;
+      redirect = Rows.redirect;
+      redirect-document = Rows.redirect-document;
+      document-stated = Rows.document-stated;
+      document-200 = Rows.document-200;
+      else-25 = Answers.no-row;
+      row-fits = λ x a e. Answers.in-row x a e .fits;
+    }
 
 pub numbers-hold : NumbersHold
 numbers-hold = Answers.numbers
@@ -28,3 +39,6 @@ location-stands s h v a p q e = Answers.location-stands s h v a p q (Answers.ans
 
 pub places-within : PlacesWithin
 places-within s a e = Answers.places s a (Answers.answered s a e)
+
+pub stream-settles : StreamSettles
+stream-settles = Streams.stream-settles

@@ -1,100 +1,81 @@
--- Laws of a field line's places: where its name ends, and where its value stands.
+-- A field line of the head: its field, as the reader of field lines places it.
 -- Assumes nothing.
-use Prim.Native.Nat.{ℕ, _+_, _≤_, _<_}
+use Prim.Native.Nat.{ℕ, _+_, _≤_}
 use mathlib.Core.Path.{_≡_, refl, sym, ap, _∙_}
-use mathlib.Core.Bool.{Bool, true, false, cond, _&&_}
 use mathlib.Core.List.{List}
-use mathlib.Core.Option.{none, some}
+use mathlib.Core.Option.{Option, none, some}
 use native.Mathlib.Omega.{arith}
-use lib.Dec.{ltb}
 use lib.ListN.{length, take, drop, length-take, length-drop}
-use lib.Seq.{length-take-le, drop-drop}
-use borrow.Author.Tests.{ltb-true}
-use Rattle.octets.specs.Kinds.{isToken, isBlank, isValue}
-use Rattle.octets.specs.Scan.{run, other, allOf}
-use Rattle.octets.specs.Trim.{kept, trimmed}
-use Rattle.octets.proofs.Scans.{run-le}
-use Rattle.octets.proofs.Trims.{kept-le}
-use Rattle.http.specs.Fields.{Field, isFieldName, fieldOf, fieldWith}
-use Rattle.response.specs.Head.{valueStart, fieldIn}
+use Rattle.octets.specs.Kinds.{isToken}
+use Rattle.http.specs.Fields.{Field, FieldNumbers, fieldOf, nameLength, valueStart, valueLength, numbersIf, numbersOf, lineOption}
+use Rattle.http.specs.Claims.{FieldStands}
+use Rattle.http.specs.declared.fields.FieldLine.the-variants.{Field as LineField, Malformed}
+use Rattle.http.proofs.Claims.{fields-have-numbers}
+use Rattle.response.specs.Head.{fieldIn}
 use Rattle.response.specs.Seen.{seeOf, seenWith}
 use Rattle.response.specs.declared.fields.Seen.{Seen}
 
--- the field f is that of the line, whose first colon stands at a place within it
-pub record Parted (line : List ℕ) (f : Field) : Type 0 where
-  pub colon : ℕ
-  pub inside : colon < length line
-  pub name-is : f .name ≡ take colon line
-  pub value-is : f .value ≡ trimmed (drop (colon + 1) line)
-
-pub field-parted : (line : List ℕ) (f : Field) → fieldOf isToken line ≡ some f → Parted line f
-unfolding fieldOf
-field-parted line f = with-colon (run (other 58) line)
-  where
-    with-colon : (n : ℕ) → fieldWith isToken line n ≡ some f → Parted line f
-    with-colon n = by (ltb n (length line)) (isFieldName isToken (take n line)) (allOf isValue (trimmed (drop (n + 1) line))) refl
-      where
-        by :
-            (a b c : Bool) → ltb n (length line) ≡ a
-            → cond (a && b && c) (some (record { name = take n line; value = trimmed (drop (n + 1) line) })) none ≡ some f → Parted line f
-        by true true true p e =
-            let z : f ≡ record { name = take n line; value = trimmed (drop (n + 1) line) } = cc in
-            record { colon = n; inside = ltb-true n (length line) p; name-is = rw z; value-is = rw z }
-        by true true false p e = absurd (let z : _≡_ {A = ℕ} 0 1 = cc in omega arith)
-        by true false c p e = absurd (let z : _≡_ {A = ℕ} 0 1 = cc in omega arith)
-        by false b c p e = absurd (let z : _≡_ {A = ℕ} 0 1 = cc in omega arith)
-
+-- the value of a line's field stands where it is said to
 module _ (line : List ℕ) (f : Field) (e : fieldOf isToken line ≡ some f) where
-  abbrev p : Parted line f
-  p = field-parted line f e
+  stands : FieldStands line f
+  stands = fields-have-numbers isToken line f e
 
-  pub name-length : length (f .name) ≡ p .colon
-  name-length = ap length (p .name-is) ∙ length-take-le (p .colon) line (omega (arith, p .inside))
+  pub value-length : length (f .value) ≡ valueLength line
+  value-length = ap length (stands .value) ∙ simp (length-take, length-drop) (omega (arith, stands .value-inside))
 
-  pub name-inside : length (f .name) < length line
-  name-inside = omega (arith, name-length, p .inside)
+  pub value-stands : f .value ≡ take (length (f .value)) (drop (valueStart line) line)
+  value-stands = stands .value ∙ ap (λ (k : ℕ). take k (drop (valueStart line) line)) (sym value-length)
 
-  abbrev behind : List ℕ
-  behind = drop (length (f .name) + 1) line
+  pub value-inside : valueStart line + length (f .value) ≤ length line
+  value-inside = omega (arith, stands .value-inside, value-length)
 
-  rest-is : drop (run isBlank behind) behind ≡ drop (valueStart line (f .name)) line
-  rest-is = drop-drop (run isBlank behind) (length (f .name) + 1) line
+-- the reader says that the line has no field
+pub unseen : (line : List ℕ) (at : ℕ) (seen : Seen) → lineOption Malformed ≡ numbersOf isToken line → none ≡ seenWith seen (fieldIn (record { start = at; bytes = line }))
+unseen line at seen = by (fieldOf isToken line) refl
+  where
+    by : (o : Option Field) → fieldOf isToken line ≡ o → none ≡ numbersIf o line → none ≡ seenWith seen (fieldIn (record { start = at; bytes = line }))
+    by none p q = rw p
+    by (some f) p q = cc
 
-  value-kept : f .value ≡ take (kept (drop (valueStart line (f .name)) line)) (drop (valueStart line (f .name)) line)
-  value-kept =
-      let n : p .colon ≡ length (f .name) = sym name-length in
-      p .value-is ∙ ap (λ (k : ℕ). trimmed (drop (k + 1) line)) n ∙ ap (λ (r : List ℕ). take (kept r) r) rest-is
+-- .. or that its field has a name of n bytes, and a value of k bytes at v
+pub record Told (line : List ℕ) (n v k : ℕ) : Type 0 where
+  pub field : Field
+  pub there : fieldOf isToken line ≡ some field
+  pub name-is : n ≡ nameLength line
+  pub value-is : v ≡ valueStart line
+  pub length-is : k ≡ valueLength line
+  pub name-inside : n ≤ length line
+  pub value-inside : v + k ≤ length line
 
-  value-length : length (f .value) ≡ kept (drop (valueStart line (f .name)) line)
-  value-length =
-      ap length value-kept
-      ∙ length-take-le (kept (drop (valueStart line (f .name)) line)) (drop (valueStart line (f .name)) line) (kept-le (drop (valueStart line (f .name)) line))
+pub told : (line : List ℕ) (n v k : ℕ) → lineOption (LineField n v k) ≡ numbersOf isToken line → Told line n v k
+told line n v k = by (fieldOf isToken line) refl
+  where
+    some-is : {a b : FieldNumbers} → some a ≡ some b → a ≡ b
+    some-is e = cc
 
-  start-inside : valueStart line (f .name) ≤ length line
-  start-inside = omega (arith, name-inside, run-le isBlank behind, length-drop (length (f .name) + 1) line)
+    by : (o : Option Field) → fieldOf isToken line ≡ o → lineOption (LineField n v k) ≡ numbersIf o line → Told line n v k
+    by none p q = absurd (let z : _≡_ {A = ℕ} 0 1 = cc in omega arith)
+    by (some f) p q =
+        let s = stands line f p in
+        let z = some-is q in
+        let a : n ≡ nameLength line = ap (λ (x : FieldNumbers). x .name) z in
+        let b : v ≡ valueStart line = ap (λ (x : FieldNumbers). x .value) z in
+        let c : k ≡ valueLength line = ap (λ (x : FieldNumbers). x .len) z in
+        record {
+          field = f;
+          there = p;
+          name-is = a;
+          value-is = b;
+          length-is = c;
+          name-inside = omega (arith, s .colon-inside);
+          value-inside = rw (b, c) (s .value-inside);
+        }
 
-  -- the value stands where it is said to
-  pub value-stands : f .value ≡ take (length (f .value)) (drop (valueStart line (f .name)) line)
-  value-stands = value-kept ∙ ap (λ (k : ℕ). take k (drop (valueStart line (f .name)) line)) (sym value-length)
-
-  pub value-inside : valueStart line (f .name) + length (f .value) ≤ length line
-  value-inside =
-      omega (arith, value-length, start-inside, kept-le (drop (valueStart line (f .name)) line), length-drop (valueStart line (f .name)) line)
-
--- The line's field as the code has it: a name of n bytes, and a value of k bytes at v.
-
-module _ (line : List ℕ) (n v k : ℕ) (a : n ≤ length line) (b : v + k ≤ length line) (e : fieldOf isToken line ≡ some (record { name = take n line; value = take k (drop v line) })) where
-  name-is-n : length (take n line) ≡ n
-  name-is-n = length-take-le n line a
-
-  value-is-k : length (take k (drop v line)) ≡ k
-  value-is-k = simp (length-take, length-drop) (omega arith)
-
-  pub colon-inside : n + 1 ≤ length line
-  colon-inside = omega (arith, name-inside line (record { name = take n line; value = take k (drop v line) }) e, name-is-n)
-
-  pub seen-line :
-      (at w : ℕ) (seen r : Seen) → w ≡ n + 1 + run isBlank (drop (n + 1) line) → r ≡ seeOf seen (take n line) (at + w) k
-      → some r ≡ seenWith seen (fieldIn (record { start = at; bytes = line }))
-  seen-line at w seen r h q =
-      rw (e, name-is-n, value-is-k, q, h)
+pub seen-line :
+    {line : List ℕ} {n v k : ℕ} → Told line n v k → (at : ℕ) (seen r : Seen) → r ≡ seeOf seen (take n line) (at + v) k
+    → some r ≡ seenWith seen (fieldIn (record { start = at; bytes = line }))
+seen-line {line} {n} {v} {k} t at seen r e =
+    let f = t .field in
+    let name : take n line ≡ f .name = ap (λ (m : ℕ). take m line) (t .name-is) ∙ sym (stands line f (t .there) .name) in
+    let len : k ≡ length (f .value) = t .length-is ∙ sym (value-length line f (t .there)) in
+    rw (e, t .there, name, t .value-is, len)

@@ -10,4 +10,6 @@ pub mod Tables
 pub mod RespondSteps
 pub mod Worked
 pub mod Answers
+pub mod Rows
+pub mod Streams
 pub mod Claims

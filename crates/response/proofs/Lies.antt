@@ -17,7 +17,7 @@ use Rattle.octets.proofs.Alls.{all-implies}
 use Rattle.octets.proofs.Lists.{part-take}
 use Rattle.octets.proofs.Outcomes.{given-gives}
 use Rattle.octets.proofs.Parting.{joinedBy, parts-of}
-use Rattle.http.specs.Fields.{Field, fieldOf}
+use Rattle.http.specs.Fields.{Field, fieldOf, valueStart}
 use Rattle.response.specs.Head.{
   bareLength,
   bare,
@@ -27,7 +27,6 @@ use Rattle.response.specs.Head.{
   linesFrom,
   linesAt,
   Named,
-  valueStart,
   placed,
   fieldIn,
   ahead,
@@ -127,9 +126,9 @@ field-in t l s x = by (fieldOf isToken (l .bytes)) refl
     by : (o : Option Field) → fieldOf isToken (l .bytes) ≡ o → placed l o ≡ some x → ValueIn t x
     by none p q = absurd (let z : _≡_ {A = ℕ} 0 1 = cc in omega arith)
     by (some f) p q =
-        let z : x ≡ record { name = f .name; value = record { start = l .start + valueStart (l .bytes) (f .name); bytes = f .value } } = cc in
+        let z : x ≡ record { name = f .name; value = record { start = l .start + valueStart (l .bytes); bytes = f .value } } = cc in
         rw z
-        (stands-part s (f .value) (valueStart (l .bytes) (f .name))
+        (stands-part s (f .value) (valueStart (l .bytes))
         (record { within = value-inside (l .bytes) f p; are = value-stands (l .bytes) f p }))
 
 fields-in : (t : List ℕ) (ls : List Line) → All (LineIn t) ls → (fs : List Named) → fieldsOf ls ≡ some fs → All (ValueIn t) fs
@@ -160,12 +159,16 @@ with-in t (some k) g h e = by (leb (length (k .lines)) 64) (fieldsOf (k .lines))
         rw z (record { each = fields-in t (k .lines) (g k refl .each) fs p; ends = g k refl .ends })
     by false o p q = record { each = absurd (let z : _≡_ {A = ℕ} 0 1 = cc in omega arith); ends = let z : _≡_ {A = ℕ} 0 1 = cc in omega arith }
 
-pub head-in : (s : List ℕ) (h : Head) → headOf s ≡ gives h → HeadIn s h
+pub front-in : (s : List ℕ) (h : Head) → headOf s ≡ gives h → HeadIn (take 8192 s) h
 unfolding headOf
-head-in s h e =
+front-in s h e =
     let t = take 8192 s in
     let q = parts-of 10 t in
-    let r = with-in t (linesAt 0 t) (λ k p. lines-in t (parted 10 t .others) 0 (parted 10 t .first) (sym (q .from)) k p) h (given-gives (headWith 64 (linesAt 0 t)) 24 h e) in
+    with-in t (linesAt 0 t) (λ k p. lines-in t (parted 10 t .others) 0 (parted 10 t .first) (sym (q .from)) k p) h (given-gives (headWith 64 (linesAt 0 t)) 24 h e)
+
+pub head-in : (s : List ℕ) (h : Head) → headOf s ≡ gives h → HeadIn s h
+head-in s h e =
+    let r = front-in s h e in
     record {
       each = all-implies (λ f p. stands-front 8192 p) (r .each);
       ends = omega (arith, r .ends, length-take 8192 s);

@@ -11,13 +11,15 @@ use lib.ListN.{length, take, drop, getD, length-take, length-drop}
 use types.Run.{OneOf}
 use denote.Enum.Declared.{tagOf}
 use borrow.Author.Tests.{lt-ltb, le-ltb, le-leb, lt-leb}
+use Rattle.octets.specs.Outcome.{Outcome, refused, gives, then}
 use Rattle.octets.specs.Kinds.{isLetter, isScheme}
 use Rattle.octets.specs.Lists.{isNil}
 use Rattle.octets.specs.Scan.{run, other, allOf}
 use Rattle.octets.proofs.Scans.{all-take}
-use Rattle.targets.specs.Target.{targetOf, targetOutcome, TargetRead}
+use Rattle.targets.specs.Target.{Target, pathOf, targetOf, targetOutcome, TargetRead}
 use Rattle.targets.specs.declared.target.TargetPlace.{TargetPlace}
 use Rattle.targets.specs.declared.target.TargetPlace.the-variants.{Path, Refused}
+use Rattle.targets.proofs.Claims.{targets-told}
 use Rattle.response.specs.Head.{Value}
 use Rattle.response.specs.Seen.{valueAt}
 use Rattle.response.specs.Location.{isVisible, isElsewhere, accepted, isLocation, locationRight, filled}
@@ -29,10 +31,14 @@ use Rattle.response.proofs.Marks.{not-once}
 -- what the reader of targets says
 module _ (t d d′ : List ℕ) (r : TargetPlace) (w : TargetRead t d d′ r) where
   pub target-taken : (n k : ℕ) → r ≡ Path n k → true ≡ accepted (targetOf t)
-  target-taken n k e = ap (λ (p : TargetPlace). accepted (targetOutcome t d′ p)) (sym e) ∙ ap accepted (w .answer)
+  target-taken n k e = by (targetOf t) (sym (ap targetOutcome e) ∙ w .answer)
+    where
+      by : (o : Outcome Target) → targetOutcome (Path n k) ≡ then o (λ x. gives (record { path = length (pathOf t); decoded = length (x .path) })) → true ≡ accepted o
+      by (refused m) q = cc
+      by (gives x) q = refl
 
   pub target-refused : (n : ℕ) → r ≡ Refused n → false ≡ accepted (targetOf t)
-  target-refused n e = ap (λ (p : TargetPlace). accepted (targetOutcome t d′ p)) (sym e) ∙ ap accepted (w .answer)
+  target-refused n e = ap accepted (targets-told .refuses t d d′ n (rw e at w))
 
 -- A Location that is not local, test by test.
 

@@ -4,11 +4,11 @@ use Prim.Native.Nat.{ℕ, suc, _+_, _≤_}
 use mathlib.Core.Path.{_≡_}
 use mathlib.Core.Bool.{Bool, true, cond, _||_}
 use mathlib.Core.List.{List, [], _∷_}
-use mathlib.Core.Option.{some}
+use mathlib.Core.Option.{none, some}
 use lib.Dec.{eqb}
 use lib.ListN.{length, take, drop}
 use Rattle.octets.specs.Text.{bytes}
-use Rattle.octets.specs.Outcome.{refused, gives}
+use Rattle.octets.specs.Outcome.{Outcome, refused, gives, then}
 use Rattle.octets.specs.Kinds.{oneOf, within}
 use Rattle.targets.specs.Target.{targetOf}
 use Rattle.response.specs.Head.{Value, Head, headOf}
@@ -33,11 +33,34 @@ rowOf Redirect = redirects
 rowOf RedirectDocument = redirectsWithDocument
 rowOf Document = hasDocument
 
--- the rows exclude each other, an action is that of the row that fits, and "anything else" is 25
+-- the whole answer of a row: its action, its status, and the places of the Location and of the body as the output has them
+abbrev pub rowAnswer : Script → Action → ℕ → Answer
+rowAnswer x a t =
+    record {
+      action = a;
+      status = t;
+      locationStart = x .locationStart;
+      locationLength = x .locationLength;
+      bodyStart = x .bodyStart;
+      bodyLength = x .bodyLength;
+    }
+
+-- the rows exclude each other, the row that fits gives the whole answer, and an answer is that of a row that fits
 pub record TableHolds : Type 0 where
   pub exclude : (x : Script) → rowsThatFit x ≤ 1
-  pub row-fits : (x : Script) (a : Answer) → tableOf x ≡ gives a → rowOf (a .action) x ≡ true
+  -- "serve that target", "0 for serving a target"
+  pub serve : (x : Script) → serves x ≡ true → tableOf x ≡ gives (rowAnswer x Serve 0)
+  -- "redirect 302"
+  pub redirect : (x : Script) → redirects x ≡ true → tableOf x ≡ gives (rowAnswer x Redirect 302)
+  -- "redirect with document", with the Status that the row asks for
+  pub redirect-document :
+      (x : Script) (n : ℕ) → redirectsWithDocument x ≡ true → x .status ≡ some n → tableOf x ≡ gives (rowAnswer x RedirectDocument n)
+  -- "document, Status or 200"
+  pub document-stated : (x : Script) (n : ℕ) → hasDocument x ≡ true → x .status ≡ some n → tableOf x ≡ gives (rowAnswer x Document n)
+  pub document-200 : (x : Script) → hasDocument x ≡ true → x .status ≡ none → tableOf x ≡ gives (rowAnswer x Document 200)
+  -- "anything else | 25"
   pub else-25 : (x : Script) → rowsThatFit x ≡ 0 → tableOf x ≡ refused 25
+  pub row-fits : (x : Script) (a : Answer) → tableOf x ≡ gives a → rowOf (a .action) x ≡ true
 
 -- with 24 and 25 the four actions cover every input: no other number is given
 abbrev pub NumbersHold : Type 0
@@ -82,3 +105,33 @@ pub record Within (s : List ℕ) (a : Answer) : Type 0 where
 
 abbrev pub PlacesWithin : Type 0
 PlacesWithin = (s : List ℕ) (a : Answer) → responseOf s ≡ gives a → Within s a
+
+-- all that an answer says but the length of the body
+pub record Settled : Type 0 where
+  pub action : Action
+  pub status : ℕ
+  pub locationStart : ℕ
+  pub locationLength : ℕ
+  pub bodyStart : ℕ
+
+abbrev pub settledOf : List ℕ → Outcome Settled
+settledOf s =
+    then (responseOf s)
+    (λ a.
+    gives
+    (record {
+      action = a .action;
+      status = a .status;
+      locationStart = a .locationStart;
+      locationLength = a .locationLength;
+      bodyStart = a .bodyStart;
+    }))
+
+-- "The input is the script's whole output", and yet its first 8,193 bytes settle the refusal, the action, the status, the Location and where
+-- the body starts, so that a server need not hold a whole document. The head lies in the first 8,192; "no body" needs one byte more, for a
+-- body that starts behind them.
+abbrev pub settling : ℕ
+settling = 8193
+
+abbrev pub StreamSettles : Type 0
+StreamSettles = (s t : List ℕ) → take settling s ≡ take settling t → settledOf s ≡ settledOf t

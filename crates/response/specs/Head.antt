@@ -5,13 +5,12 @@ use mathlib.Core.Bool.{cond}
 use mathlib.Core.List.{List, [], _∷_}
 use mathlib.Core.Option.{Option, none, some}
 use lib.Dec.{eqb, leb}
-use lib.ListN.{length, take, drop, getD}
+use lib.ListN.{length, take, getD}
 use Rattle.octets.specs.Outcome.{Outcome, given}
-use Rattle.octets.specs.Kinds.{isToken, isBlank}
-use Rattle.octets.specs.Scan.{run}
+use Rattle.octets.specs.Kinds.{isToken}
 use Rattle.octets.specs.Lists.{isNil}
 use Rattle.octets.specs.Parts.{parted}
-use Rattle.http.specs.Fields.{Field, fieldOf}
+use Rattle.http.specs.Fields.{Field, fieldOf, valueStart}
 
 -- "Lines end in LF, with or without one CR before it": a line is what stands before the LF, without one CR, which is 13, at its end
 unfoldable pub bareLength : List ℕ → ℕ
@@ -57,14 +56,11 @@ pub record Named : Type 0 where
   pub name : List ℕ
   pub value : Value
 
--- a value starts behind the name, the `:`, and the spaces and tabs that it loses
-abbrev pub valueStart : List ℕ → List ℕ → ℕ
-valueStart line name = let behind = length name + 1 in behind + run isBlank (drop behind line)
-
+-- the field of a line, with the place of its value in the output
 abbrev pub placed : Line → Option Field → Option Named
 placed l none = none
 placed l (some f) =
-    some (record { name = f .name; value = record { start = l .start + valueStart (l .bytes) (f .name); bytes = f .value } })
+    some (record { name = f .name; value = record { start = l .start + valueStart (l .bytes); bytes = f .value } })
 
 -- "field lines as above, but `_` is allowed": a name's bytes are token bytes
 abbrev pub fieldIn : Line → Option Named

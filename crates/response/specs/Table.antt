@@ -126,13 +126,22 @@ answerWith x a t =
       bodyLength = x .bodyLength;
     })
 
--- "serve that target", "redirect 302", "redirect with document", "document, Status or 200", "anything else | 25"
+-- "serve that target", with "0 for serving a target", "redirect 302", "redirect with document", with its Status, "document, Status or 200"
+abbrev pub statusFor : Action → Script → ℕ
+statusFor Serve x = 0
+statusFor Redirect x = 302
+statusFor RedirectDocument x = statusOr 0 (x .status)
+statusFor Document x = statusOr 200 (x .status)
+
+abbrev pub answerFor : Script → Action → Outcome Answer
+answerFor x a = answerWith x a (statusFor a x)
+
+-- .. and "anything else | 25"
 unfoldable pub tableOf : Script → Outcome Answer
 tableOf x =
-    cond (serves x) (answerWith x Serve 0)
-    (cond (redirects x) (answerWith x Redirect 302)
-    (cond (redirectsWithDocument x) (answerWith x RedirectDocument (statusOr 0 (x .status)))
-    (cond (hasDocument x) (answerWith x Document (statusOr 200 (x .status))) (refused 25))))
+    cond (serves x) (answerFor x Serve)
+    (cond (redirects x) (answerFor x Redirect)
+    (cond (redirectsWithDocument x) (answerFor x RedirectDocument) (cond (hasDocument x) (answerFor x Document) (refused 25))))
 
 abbrev pub goesTo : Option Value → Goes
 goesTo none = nowhere

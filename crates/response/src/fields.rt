@@ -10,7 +10,6 @@ use http::fields::FieldLine;
 use http::fields::field_line;
 use octets::compare::same_letters;
 use octets::kinds::Kind;
-use octets::trim::blank_end;
 
 pub enum Mark {
     Absent,
@@ -68,14 +67,13 @@ pub fn line_step(kinds: &[u8; 256], line: &[u8], at: usize, seen: Seen) -> LineS
     let l = field_line(kinds, Kind::Token, line);
     let FieldLine::Field {
         name_len,
-        value: _,
+        value,
         value_len,
     } = l
     else {
         return LineStep::Malformed;
     };
-    let v = blank_end(line, name_len + 1);
-    LineStep::Next(see(seen, &line[..name_len], at + v, value_len))
+    LineStep::Next(see(seen, &line[..name_len], at + value, value_len))
 }
 
 // Whether a mark tells one field or none.

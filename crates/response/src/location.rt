@@ -58,7 +58,7 @@ fn is_elsewhere(kinds: &[u8; 256], v: &[u8]) -> bool
     all_visible(v)
 }
 
-// Whether v obeys the rules of a target.
+// Whether v obeys the rules of a target. Their 14 is not handed up: of a Location it becomes 25, "save where a rule names another number".
 fn is_target(v: &[u8]) -> bool
     ensures { λ r. ⌜ r ≡ accepted (targetOf (now (v .entry))) ⌝ }
 {

@@ -29,6 +29,7 @@ fn judge(kinds: &[u8; 256], s: &[u8], end: usize, fields: usize, seen: Seen) -> 
     if !mark_filled(content) {
         return Response::Refused(25);
     }
+    // A target that is refused with 14 is 25 here: "25 for Location".
     if !location_right(kinds, s, location) {
         return Response::Refused(25);
     }

@@ -4,6 +4,7 @@ ghost use mathlib.Core.Path.{_≡_};
 ghost use mathlib.Core.Bool.{Bool, true};
 ghost use mathlib.Core.Option.{Option};
 ghost use lib.ListN.{length};
+ghost use Rattle.octets.specs.Outcome.{refusalOf};
 ghost use Rattle.response.specs.Seen.{valueAt, MarkIn};
 ghost use Rattle.response.specs.Status.{statusRead};
 ghost use Rattle.response.specs.Location.{filled};
@@ -27,6 +28,25 @@ pub enum Response {
         body_len: usize,
     },
     Refused(u8),
+}
+
+impl Response {
+    // The number of the refusal.
+    pub fn number(self) -> u8
+        ensures { λ r. ⌜ r ≡ refusalOf (responseOutcome self) ⌝ }
+    {
+        match self {
+            Response::Answer {
+                action: _,
+                status: _,
+                location: _,
+                location_len: _,
+                body: _,
+                body_len: _,
+            } => 0,
+            Response::Refused(n) => n,
+        }
+    }
 }
 
 // Whether a redirect with document can have the status.

@@ -125,7 +125,7 @@ request-line-spec =
     enum-told
     number-requires
     returns-5
-    add-t7
     add-t10
+    add-t7
     sub-t9
     returns-6)
