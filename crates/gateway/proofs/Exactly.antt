@@ -20,7 +20,7 @@ use Rattle.variables.specs.Meaning.{Meaning}
 use Rattle.variables.specs.Variables.{variables}
 use Rattle.gateway.specs.Step.{bytesOf, Forward, meaningAt, forwardOf}
 use Rattle.gateway.specs.Claims.{BytesExactlyMeaning, WrittenIsAccepted, PoolStands, PoolIsValue}
-use Rattle.variables.proofs.Variables.{variables-once}
+use Rattle.variables.proofs.Claims.{variables-say-meaning}
 use Rattle.gateway.proofs.Links.{Lending, lent-of, without-room}
 use Rattle.gateway.proofs.Accepted.{one-of, Account, account}
 
@@ -34,7 +34,7 @@ module _ (k : Lent) (http http′ : List ℕ) (f f′ : Forward) (a : Account k 
       let hs = variables (k .settings) (route a) (a .meaning) in
       let hs′ = variables (k .settings) (route b) (b .meaning) in
       let o = request-once hs hs′ (a .meaning .body) (b .meaning .body) [] [] (a .request) (b .request) (ap (λ (s : List ℕ). s ++ []) (sym (a .bytes) ∙ e ∙ b .bytes)) in
-      let m : a .meaning ≡ b .meaning = variables-once (k .settings) (route a) (route b) (a .meaning) (b .meaning) (a .proper) (b .proper) (o .0) (o .1) in
+      let m : a .meaning ≡ b .meaning = variables-say-meaning (k .settings) (route a) (route b) (a .meaning) (b .meaning) (a .proper) (b .proper) (o .0) (o .1) in
       a .means ∙ ap gives m ∙ sym (b .means)
 
   meaning-bytes : meaningAt http ≡ meaningAt http′ → f .scgi ≡ f′ .scgi

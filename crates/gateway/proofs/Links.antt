@@ -8,46 +8,17 @@ use lib.Dec.{leb}
 use lib.ListN.{length, take, drop}
 use borrow.Author.Tests.{leb-true}
 use Rattle.octets.specs.Outcome.{Outcome, gives, need}
-use Rattle.octets.specs.Kinds.{isName}
 use Rattle.octets.proofs.Outcomes.{need-gives, given-gives, gives-once, then-gives}
 use Rattle.headers.specs.Block.{printed}
 use Rattle.http.specs.Head.{headOf}
-use Rattle.http.specs.Lines.{linesOf}
-use Rattle.http.specs.RequestLine.{FirstLine, requestLineOf}
-use Rattle.targets.specs.Target.{Target, targetOf}
-use Rattle.http.specs.Fields.{Field, fieldsOf}
 use Rattle.lent.specs.Settings.{Settings}
 use Rattle.lent.specs.Mounts.{Mount, Route, mountOf, mountFor, routeOf}
 use Rattle.lent.specs.Lent.{Lent}
-use Rattle.request.specs.Named.{lowered}
 use Rattle.variables.specs.Meaning.{Meaning, meaningOf}
 use Rattle.variables.specs.Variables.{variables}
 use Rattle.gateway.specs.Claims.{RoomIsLast}
-use Rattle.request.specs.Request.{rulesOf, Request, requestOf}
+use Rattle.request.specs.Request.{Request, requestOf}
 use Rattle.gateway.specs.Step.{bytesOf, Body, bodyOf, Forward, writtenFor, forwardOf, stepWith}
-
--- of a head
-pub record RequestLinks (head : List ℕ) (q : Request) : Type 0 where
-  pub target : Target
-  pub line-read : requestLineOf (linesOf head .first) ≡ gives (q .first)
-  pub target-read : targetOf (q .first .target) ≡ gives target
-  pub path : q .path ≡ target .path
-  pub fields-read : fieldsOf isName (linesOf head .others) ≡ gives (q .fields)
-
-links-at :
-    (head : List ℕ) (q : Request) (first : FirstLine) (t : Target) (fields : List Field) (n : ℕ) → requestLineOf (linesOf head .first) ≡ gives first
-    → targetOf (first .target) ≡ gives t → fieldsOf isName (linesOf head .others) ≡ gives fields
-    → record { first = first; path = t .path; fields = fields; bodyLength = n } ≡ q → RequestLinks head q
-links-at head q first t fields n a b c z = rw (← z) (record { target = t; line-read = a; target-read = b; path = refl; fields-read = c })
-
-pub request-links : (head : List ℕ) (q : Request) → requestOf head ≡ gives q → RequestLinks head q
-unfolding requestOf
-request-links head q e =
-    let a = then-gives (requestLineOf (linesOf head .first)) _ q e in
-    let b = then-gives (targetOf (a .it .target)) _ q (a .next) in
-    let c = then-gives (fieldsOf isName (linesOf head .others)) _ q (b .next) in
-    let d = then-gives (rulesOf (a .it .version) (lowered (c .it))) _ q (c .next) in
-    links-at head q (a .it) (b .it) (c .it) (d .it) (a .first) (b .first) (c .first) (gives-once _ q (d .next))
 
 -- of a body
 pub record BodyLinks (http : List ℕ) (h n : ℕ) (b : Body) : Type 0 where

@@ -3,8 +3,7 @@
 use mathlib.Core.Path.{sym, ap, _∙_}
 use lib.ListN.{length}
 use Rattle.http.specs.Head.{headOutcome}
-use Rattle.http.proofs.Heads.{head-within}
-use Rattle.lent.specs.Places.{settingsAt}
+use Rattle.http.proofs.Claims.{heads-hold}
 use Rattle.lent.specs.Check.{lentOutcome}
 use Rattle.lent.specs.Claims.{Accepted}
 use Rattle.lent.proofs.Claims.{places-are-lent}
@@ -43,35 +42,31 @@ head-end-requires c κs = search needs
 enum-known-e : tie.Need-enum-known-e
 enum-known-e c = search needs
 
-enum-known-e-2 : tie.Need-enum-known-e-2
-enum-known-e-2 c = search needs
-
-enum-known-e-3 : tie.Need-enum-known-e-3
-enum-known-e-3 c = search needs
-
 enum-told-2 : tie.Need-enum-told-2
 enum-told-2 c = search needs
 
-returns-2 : tie.Need-returns-2
-returns-2 c = search needs
+number-requires-2 : tie.Need-number-requires-2
+number-requires-2 c κs = search needs
 
-returns-3 : tie.Need-returns-3
-returns-3 c =
-    let a = c .before .before .before .before .before .before .before .before .before .before .before .before .before .before .before .before .args in
-    let g = got (c .before .before .before .before .before .before .before) in
-    left-alone (stepOf (a .facts .now) (a .site .now) (a .mounts .now) (a .http .now) (length (a .out .now))) (a .out .now) _ (step-head (a .facts .now) (a .site .now) (a .mounts .now) (a .http .now) (length (a .out .now)) _ (g .ms) (g .lent) _ (sym (c .before .before .before .before .before .before .head-end .ensures) ∙ ap headOutcome (c .before .before .before .before .e2 .given .1 ∙ c .before .e3 .given .1)))
+returns-2 : tie.Need-returns-2
+returns-2 c =
+    let a = c .before .before .before .before .before .before .before .before .before .before .before .before .before .args in
+    let e = c .before .enum-told2 .given .1 in
+    let g = got (c .before .before .before .before) in
+    rw (c .number2 .ensures, e)
+    (left-alone (stepOf (a .facts .now) (a .site .now) (a .mounts .now) (a .http .now) (length (a .out .now))) (a .out .now) _ (step-head (a .facts .now) (a .site .now) (a .mounts .now) (a .http .now) (length (a .out .now)) _ (g .ms) (g .lent) _ (sym (c .before .before .before .head-end .ensures) ∙ ap headOutcome e)))
 
 read-head-requires : tie.Need-read-head-requires
 read-head-requires c κs =
     let g = got (c .before .before .before .before .before) in
-    let w = head-within _ _ (sym (c .before .before .before .before .head-end .ensures) ∙ ap headOutcome (c .before .before .e .given .1)) in
+    let w = heads-hold .within _ _ (sym (c .before .before .before .before .head-end .ensures) ∙ ap headOutcome (c .before .before .e .given .1)) in
     (g .inside, mounts-formed _ (g .ms) (g .mounts-are), w .last, w .inside)
 
 same-length : tie.Need-same-length
 same-length c = search needs
 
-returns-4 : tie.Need-returns-4
-returns-4 c =
+returns-3 : tie.Need-returns-3
+returns-3 c =
     let a = c .before .before .before .before .before .before .before .before .before .before .before .before .before .before .before .before .before .args in
     let g = got (c .before .before .before .before .before .before .before .before) in
     rw (step-headed (a .facts .now) (a .site .now) (a .mounts .now) (a .http .now) (length (a .out .now)) _ (g .ms) (g .lent) _ (g .mounts-are) (sym (c .before .before .before .before .before .before .before .head-end .ensures) ∙ ap headOutcome (c .before .before .before .before .before .e .given .1))) (c .before .before .read-head .ensures)
@@ -87,11 +82,9 @@ step-spec =
     returns
     head-end-requires
     enum-known-e
-    enum-known-e-2
-    enum-known-e-3
     enum-told-2
+    number-requires-2
     returns-2
-    returns-3
     read-head-requires
     same-length
-    returns-4)
+    returns-3)
