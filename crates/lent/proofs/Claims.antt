@@ -1,9 +1,13 @@
 -- Each claim of specs/Claims.antt, proved. Crates above cite this file and no other of this folder.
 -- Assumes nothing.
-use Rattle.lent.specs.Claims.{MountIsLongest, LongestWins, RouteIsPath, LentNumber, LentMounts, LentIsProper, PlacesAreLent}
+use Rattle.lent.specs.Claims.{PoolsAreValues, MountIsLongest, LongestWins, RouteIsPath, LentNumber, LentMounts, LentIsProper, PlacesAreLent}
 use Rattle.lent.proofs.Mounts as Mounts
+use Rattle.lent.proofs.Pools as Pools
 use Rattle.lent.proofs.CheckSteps as CheckSteps
 use Rattle.lent.proofs.Proper as Proper
+
+pub pools-are-values : PoolsAreValues
+pools-are-values = Pools.pools-are-values
 
 pub mount-is-longest : MountIsLongest
 mount-is-longest = Mounts.mount-is-longest

@@ -1,5 +1,6 @@
 pub mod Mounts
 pub mod Searches
+pub mod Pools
 pub mod BlockSteps
 pub mod SettingSteps
 pub mod CheckSteps

@@ -17,10 +17,9 @@ use Rattle.octets.specs.Lists.{All, no-more, _&_}
 use Rattle.octets.proofs.Alls.{all-implies}
 use Rattle.octets.proofs.Bools.{and-left, and-right, and-false}
 use Rattle.octets.proofs.Compares.{same-true}
-use Rattle.headers.specs.Block.{Header, here, later}
-use Rattle.headers.specs.Lookup.{valueIn}
-use Rattle.lent.specs.Mounts.{begins, fits, longer, mountOf, beforeSlash, shortened, mountNamed, orShorter, triedIn}
-use Rattle.lent.specs.Claims.{Longest, MountIsLongest, LongestWins, RouteIsPath}
+use Rattle.octets.specs.Scan.{count}
+use Rattle.lent.specs.Mounts.{Mount, begins, fits, longer, mountOf, beforeSlash, shortened, mountNamed, orShorter, triedIn, tried}
+use Rattle.lent.specs.Claims.{here, later, Longest, MountIsLongest, LongestWins, RouteIsPath}
 
 -- Bytes that begin with others.
 
@@ -58,23 +57,23 @@ fits-length name path e = omega (arith, length-append name (drop (length name) p
 
 -- what is true of each mount that fits is true of the one that wins
 won :
-    (P : Header → Type 0) (path : List ℕ) → ((m : Header) → fits (m .name) path ≡ true → P m) → (ms : List Header) (o : Header)
+    (P : Mount → Type 0) (path : List ℕ) → ((m : Mount) → fits (m .name) path ≡ true → P m) → (ms : List Mount) (o : Mount)
     → mountOf ms path ≡ some o → P o
 unfolding mountOf
 won P path f [] o e = absurd (let z : _≡_ {A = ℕ} 0 1 = cc in omega arith)
 won P path f (m ∷ ms) o e = by (fits (m .name) path) refl (mountOf ms path) e (won P path f ms o)
   where
-    is : (a : Header) → P a → some a ≡ some o → P o
+    is : (a : Mount) → P a → some a ≡ some o → P o
     is a p q =
         let z : a ≡ o = cc in
         rw (← z) p
 
-    longest : (g : Header) (u : Bool) → P m → (some g ≡ some o → P o) → cond u (some m) (some g) ≡ some o → P o
+    longest : (g : Mount) (u : Bool) → P m → (some g ≡ some o → P o) → cond u (some m) (some g) ≡ some o → P o
     longest g true p q r = is m p r
     longest g false p q r = q r
 
     by :
-        (t : Bool) → fits (m .name) path ≡ t → (w : Option Header) → cond t (longer m w) w ≡ some o → (w ≡ some o → P o) → P o
+        (t : Bool) → fits (m .name) path ≡ t → (w : Option Mount) → cond t (longer m w) w ≡ some o → (w ≡ some o → P o) → P o
     by true q none r ih = is m (f m q) r
     by true q (some g) r ih = longest g (leb (length (g .name)) (length (m .name))) (f m q) ih r
     by false q w r ih = ih r
@@ -82,40 +81,50 @@ won P path f (m ∷ ms) o e = by (fits (m .name) path) refl (mountOf ms path) e 
 pub route-is-path : RouteIsPath
 route-is-path ms path m e = won (λ o. o .name ++ drop (length (o .name)) path ≡ path) path (λ o f. fits-front (o .name) path f) ms m e
 
-not-longer : (ms : List Header) (path : List ℕ) (o : Header) → mountOf ms path ≡ some o → length (o .name) ≤ length path
+not-longer : (ms : List Mount) (path : List ℕ) (o : Mount) → mountOf ms path ≡ some o → length (o .name) ≤ length path
 not-longer ms path o e = won (λ m. length (m .name) ≤ length path) path (λ m f. fits-length (m .name) path f) ms o e
 
 -- A path that is a mount's name.
 
 module _ (path : List ℕ) where
-  -- before mounts among which the path has the pool v
-  shorter-loses : (m : Header) (v : List ℕ) (t : Bool) → begins (m .name ++ 47 ∷ []) path ≡ t → cond t (longer m (some (record { name = path; value = v }))) (some (record { name = path; value = v })) ≡ some (record { name = path; value = v })
-  shorter-loses m v true q =
-      let l : length (m .name) < length path = omega (arith, begins-length (m .name ++ 47 ∷ []) path q, length-append (m .name) (47 ∷ [])) in
-      rw (lt-leb (length path) (length (m .name)) l)
-  shorter-loses m v false q = refl
+  -- a mount with the path as its name
+  named-so : (ms : List Mount) (o : Mount) → mountNamed path ms ≡ some o → o .name ≡ path
+  unfolding mountNamed
+  named-so [] o e = cc
+  named-so (m ∷ ms) o e = by (sameBytes (m .name) path) refl e (named-so ms o)
+    where
+      by :
+          (t : Bool) → sameBytes (m .name) path ≡ t → cond t (some m) (mountNamed path ms) ≡ some o → (mountNamed path ms ≡ some o → o .name ≡ path)
+          → o .name ≡ path
+      by true q f ih =
+          let z : m ≡ o = cc in
+          ap (λ (x : Mount). x .name) (sym z) ∙ same-true (m .name) path q
+      by false q f ih = ih f
 
-  longest-first : (m : Header) (o : Option Header) → ((g : Header) → o ≡ some g → length (g .name) ≤ length (m .name)) → longer m o ≡ some m
+  -- before mounts among which one has the path as its name
+  shorter-loses : (m o : Mount) → o .name ≡ path → (t : Bool) → begins (m .name ++ 47 ∷ []) path ≡ t → cond t (longer m (some o)) (some o) ≡ some o
+  shorter-loses m o e true q =
+      let l : length (m .name) < length (o .name) = omega (arith, begins-length (m .name ++ 47 ∷ []) path q, length-append (m .name) (47 ∷ []), ap length e) in
+      rw (lt-leb (length (o .name)) (length (m .name)) l)
+  shorter-loses m o e false q = refl
+
+  longest-first : (m : Mount) (o : Option Mount) → ((g : Mount) → o ≡ some g → length (g .name) ≤ length (m .name)) → longer m o ≡ some m
   longest-first m none h = refl
   longest-first m (some g) h = rw (le-leb (length (g .name)) (length (m .name)) (h g refl))
 
-  is-named : (m : Header) → m .name ≡ path → _≡_ {A = Header} m (record { name = path; value = m .value })
-  is-named m e = ap {B = Header} (λ (x : List ℕ). record { name = x; value = m .value }) e
-
-  pub path-named : (ms : List Header) (v : List ℕ) → valueIn path ms ≡ some v → mountOf ms path ≡ some (record { name = path; value = v })
-  unfolding mountOf valueIn
-  path-named [] v e = cc
-  path-named (m ∷ ms) v e = by (sameBytes (m .name) path) refl e (path-named ms v)
+  pub path-named : (ms : List Mount) (o : Mount) → mountNamed path ms ≡ some o → mountOf ms path ≡ some o
+  unfolding mountOf mountNamed
+  path-named [] o e = cc
+  path-named (m ∷ ms) o e = by (sameBytes (m .name) path) refl e (path-named ms o) (named-so ms o)
     where
       by :
-          (t : Bool) → sameBytes (m .name) path ≡ t → cond t (some (m .value)) (valueIn path ms) ≡ some v
-          → (valueIn path ms ≡ some v → mountOf ms path ≡ some (record { name = path; value = v }))
-          → cond (t || begins (m .name ++ 47 ∷ []) path) (longer m (mountOf ms path)) (mountOf ms path) ≡ some (record { name = path; value = v })
-      by true q f ih =
+          (t : Bool) → sameBytes (m .name) path ≡ t → cond t (some m) (mountNamed path ms) ≡ some o
+          → (mountNamed path ms ≡ some o → mountOf ms path ≡ some o) → (mountNamed path ms ≡ some o → o .name ≡ path)
+          → cond (t || begins (m .name ++ 47 ∷ []) path) (longer m (mountOf ms path)) (mountOf ms path) ≡ some o
+      by true q f ih n =
           let z : m .name ≡ path = same-true (m .name) path q in
-          let w : m .value ≡ v = cc in
-          longest-first m (mountOf ms path) (λ g h. rw z (not-longer ms path g h)) ∙ ap some (is-named m z ∙ ap {B = Header} (λ (y : List ℕ). record { name = path; value = y }) w)
-      by false q f ih = rw (ih f) (shorter-loses m v (begins (m .name ++ 47 ∷ []) path) refl)
+          longest-first m (mountOf ms path) (λ g h. rw z (not-longer ms path g h)) ∙ f
+      by false q f ih n = rw (ih f) (shorter-loses m o (n f) (begins (m .name ++ 47 ∷ []) path) refl)
 
 -- A path that is no mount's name.
 
@@ -158,27 +167,27 @@ begins-shortened (c ∷ name) (b ∷ s) = by (shortened s) (begins-shortened nam
 
 -- no mount has the path as its name
 module _ (path : List ℕ) where
-  pub last-segment : (ms : List Header) (t : List ℕ) → valueIn path ms ≡ none → shortened path ≡ some t → mountOf ms path ≡ mountOf ms t
-  unfolding mountOf valueIn
+  pub last-segment : (ms : List Mount) (t : List ℕ) → mountNamed path ms ≡ none → shortened path ≡ some t → mountOf ms path ≡ mountOf ms t
+  unfolding mountOf mountNamed
   last-segment [] t e h = refl
   last-segment (m ∷ ms) t e h = by (sameBytes (m .name) path) e (last-segment ms t)
     where
       by :
-          (q : Bool) → cond q (some (m .value)) (valueIn path ms) ≡ none
-          → (valueIn path ms ≡ none → shortened path ≡ some t → mountOf ms path ≡ mountOf ms t)
+          (q : Bool) → cond q (some m) (mountNamed path ms) ≡ none
+          → (mountNamed path ms ≡ none → shortened path ≡ some t → mountOf ms path ≡ mountOf ms t)
           → cond (q || begins (m .name ++ 47 ∷ []) path) (longer m (mountOf ms path)) (mountOf ms path)
           ≡ cond (fits (m .name) t) (longer m (mountOf ms t)) (mountOf ms t)
       by true f ih = cc
       by false f ih = rw (begins-shortened (m .name) path ∙ ap (fitsIn (m .name)) h, ih f h)
 
-  pub no-segment : (ms : List Header) → valueIn path ms ≡ none → shortened path ≡ none → mountOf ms path ≡ none
-  unfolding mountOf valueIn
+  pub no-segment : (ms : List Mount) → mountNamed path ms ≡ none → shortened path ≡ none → mountOf ms path ≡ none
+  unfolding mountOf mountNamed
   no-segment [] e h = refl
   no-segment (m ∷ ms) e h = by (sameBytes (m .name) path) e (no-segment ms)
     where
       by :
-          (q : Bool) → cond q (some (m .value)) (valueIn path ms) ≡ none
-          → (valueIn path ms ≡ none → shortened path ≡ none → mountOf ms path ≡ none)
+          (q : Bool) → cond q (some m) (mountNamed path ms) ≡ none
+          → (mountNamed path ms ≡ none → shortened path ≡ none → mountOf ms path ≡ none)
           → cond (q || begins (m .name ++ 47 ∷ []) path) (longer m (mountOf ms path)) (mountOf ms path) ≡ none
       by true f ih = cc
       by false f ih = rw (begins-shortened (m .name) path ∙ ap (fitsIn (m .name)) h, ih f h)
@@ -224,50 +233,100 @@ module _ (s : List ℕ) (n : ℕ) (p : 0 < n) (h : n ≤ length s) where
   pub no-slash : (getD s (n - 1) 0 ≡ 47 → ⊥) → shortened (take n s) ≡ shortened (take (n - 1) s)
   no-slash e = back-one ∙ rw (ne-eqb (getD s (n - 1) 0) 47 e)
 
+-- a slash less
+
+before-counts : (b n : ℕ) (o : Option (List ℕ)) (t : List ℕ) → ((u : List ℕ) → o ≡ some u → n ≡ suc (count 47 u)) → (o ≡ none → n ≡ 0) → beforeSlash b o ≡ some t → cond (eqb b 47) (suc n) n ≡ suc (count 47 t)
+unfolding count
+before-counts b n (some u) t h g e =
+    let z : b ∷ u ≡ t = cc in
+    rw (← z) (by (eqb b 47) (h u refl))
+  where
+    by : (q : Bool) → n ≡ suc (count 47 u) → cond q (suc n) n ≡ suc (cond q (suc (count 47 u)) (count 47 u))
+    by true k = ap suc k
+    by false k = k
+before-counts b n none t h g e = by (eqb b 47) e
+  where
+    by : (q : Bool) → cond {A = Option (List ℕ)} q (some []) none ≡ some t → cond q (suc n) n ≡ suc (count 47 t)
+    by true f =
+        let z : [] ≡ t = cc in
+        rw (← z) (ap suc (g refl))
+    by false f = cc
+
+before-none : (b n : ℕ) (o : Option (List ℕ)) → (o ≡ none → n ≡ 0) → beforeSlash b o ≡ none → cond (eqb b 47) (suc n) n ≡ 0
+before-none b n (some u) g e = cc
+before-none b n none g e = by (eqb b 47) e
+  where
+    by : (q : Bool) → cond {A = Option (List ℕ)} q (some []) none ≡ none → cond q (suc n) n ≡ 0
+    by true f = cc
+    by false f = g refl
+
+no-slash-counts : (s : List ℕ) → shortened s ≡ none → count 47 s ≡ 0
+unfolding shortened count
+no-slash-counts [] e = refl
+no-slash-counts (b ∷ s) e = before-none b (count 47 s) (shortened s) (no-slash-counts s) e
+
+pub shortened-counts : (s t : List ℕ) → shortened s ≡ some t → count 47 s ≡ suc (count 47 t)
+unfolding shortened count
+shortened-counts [] t e = cc
+shortened-counts (b ∷ s) t e = before-counts b (count 47 s) (shortened s) t (λ u. shortened-counts s u) (no-slash-counts s) e
+
 -- Trying path after path.
 
-tried-enough : (n : ℕ) (ms : List Header) (path : List ℕ) → length path < n → triedIn n ms path ≡ mountOf ms path
+module _ (ms : List Mount) (path : List ℕ) where
+  pub tried-here : (m : Mount) → mountNamed path ms ≡ some m → tried ms path ≡ some m
+  unfolding triedIn
+  tried-here m e = rw e
+
+  pub tried-last : mountNamed path ms ≡ none → shortened path ≡ none → tried ms path ≡ none
+  unfolding triedIn
+  tried-last e s = rw (e, s)
+
+  pub tried-on : (t : List ℕ) → mountNamed path ms ≡ none → shortened path ≡ some t → tried ms path ≡ tried ms t
+  unfolding triedIn
+  tried-on t e s = rw (e, s) (ap (λ (n : ℕ). triedIn n ms t) (shortened-counts path t s))
+
+tried-enough : (n : ℕ) (ms : List Mount) (path : List ℕ) → count 47 path < n → triedIn n ms path ≡ mountOf ms path
 unfolding triedIn
 tried-enough zero ms path h = absurd (omega arith)
-tried-enough (suc n) ms path h = by (valueIn path ms) (shortened path) refl refl (tried-enough n ms)
+tried-enough (suc n) ms path h = by (mountNamed path ms) (shortened path) refl refl (tried-enough n ms)
   where
     by :
-        (v o : Option (List ℕ)) → valueIn path ms ≡ v → shortened path ≡ o
-        → ((t : List ℕ) → length t < n → triedIn n ms t ≡ mountOf ms t)
-        → orShorter (mountNamed path v) (triedIn n ms) o ≡ mountOf ms path
-    by (some v) o e f ih = sym (path-named path ms v e)
+        (v : Option Mount) (o : Option (List ℕ)) → mountNamed path ms ≡ v → shortened path ≡ o
+        → ((t : List ℕ) → count 47 t < n → triedIn n ms t ≡ mountOf ms t)
+        → orShorter v (triedIn n ms) o ≡ mountOf ms path
+    by (some m) o e f ih = sym (path-named path ms m e)
     by none none e f ih = sym (no-segment path ms e f)
-    by none (some t) e f ih = ih t (omega (arith, shortened-shorter path t f)) ∙ sym (last-segment path ms t e f)
+    by none (some t) e f ih = ih t (omega (arith, shortened-counts path t f)) ∙ sym (last-segment path ms t e f)
 
 pub longest-wins : LongestWins
-longest-wins ms path = tried-enough (suc (length path)) ms path (omega arith)
+longest-wins ms path = tried-enough (suc (count 47 path)) ms path (omega arith)
 
 -- The mount that wins is the longest that fits.
 
 module _ (path : List ℕ) where
-  pub none-fits : (ms : List Header) → mountOf ms path ≡ none → All (λ o. fits (o .name) path ≡ false) ms
+  pub none-fits : (ms : List Mount) → mountOf ms path ≡ none → All (λ o. fits (o .name) path ≡ false) ms
   unfolding mountOf
   none-fits [] e = no-more
   none-fits (m ∷ ms) e = by (fits (m .name) path) refl (mountOf ms path) e (none-fits ms)
     where
-      never : (g : Header) (u : Bool) → cond u (some m) (some g) ≡ none → ⊥
+      never : (g : Mount) (u : Bool) → cond u (some m) (some g) ≡ none → ⊥
       never g true r = let z : _≡_ {A = ℕ} 0 1 = cc in omega arith
       never g false r = let z : _≡_ {A = ℕ} 0 1 = cc in omega arith
 
       by :
-          (t : Bool) → fits (m .name) path ≡ t → (w : Option Header) → cond t (longer m w) w ≡ none
+          (t : Bool) → fits (m .name) path ≡ t → (w : Option Mount) → cond t (longer m w) w ≡ none
           → (w ≡ none → All (λ o. fits (o .name) path ≡ false) ms) → All (λ o. fits (o .name) path ≡ false) (m ∷ ms)
       by true q none r ih = absurd (never m true r)
       by true q (some g) r ih = absurd (never g (leb (length (g .name)) (length (m .name))) r)
       by false q w r ih = q & ih r
 
-  pub wins : (ms : List Header) (m : Header) → mountOf ms path ≡ some m → Longest ms path m
+  pub wins : (ms : List Mount) (m : Mount) → mountOf ms path ≡ some m → Longest ms path m
   unfolding mountOf
   wins [] m e = absurd (let z : _≡_ {A = ℕ} 0 1 = cc in omega arith)
   wins (h ∷ ms) m e = by (fits (h .name) path) refl (mountOf ms path) refl e (wins ms)
     where
       pick :
-          (g : Header) (u : Bool) → leb (length (g .name)) (length (h .name)) ≡ u → fits (h .name) path ≡ true → cond u (some h) (some g) ≡ some m
+          (g : Mount) (u : Bool) → leb (length (g .name)) (length (h .name)) ≡ u → fits (h .name) path ≡ true → cond u (some h) (some g) ≡ some m
           → Longest ms path g → Longest (h ∷ ms) path m
       pick g true u q r l =
           let z : h ≡ m = cc in
@@ -281,8 +340,8 @@ module _ (path : List ℕ) where
           rw (← z) (record { among = later (l .among); it-fits = l .it-fits; longest = (λ f. t) & l .longest })
 
       by :
-          (t : Bool) → fits (h .name) path ≡ t → (w : Option Header) → mountOf ms path ≡ w → cond t (longer h w) w ≡ some m
-          → ((o : Header) → w ≡ some o → Longest ms path o) → Longest (h ∷ ms) path m
+          (t : Bool) → fits (h .name) path ≡ t → (w : Option Mount) → mountOf ms path ≡ w → cond t (longer h w) w ≡ some m
+          → ((o : Mount) → w ≡ some o → Longest ms path o) → Longest (h ∷ ms) path m
       by true q none p r ih =
           let z : h ≡ m = cc in
           rw (← z)

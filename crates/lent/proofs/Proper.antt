@@ -1,6 +1,6 @@
 -- What is lent can stand in a block: no NUL in a value or a name.
 -- Assumes nothing.
-use Prim.Native.Nat.{ℕ}
+use Prim.Native.Nat.{ℕ, _+_}
 use Prim.{absurd}
 use mathlib.Core.Path.{_≡_, refl, ap, _∙_}
 use mathlib.Core.Bool.{Bool, true, false, cond, not}
@@ -12,11 +12,12 @@ use lib.ListN.{length}
 use Rattle.octets.specs.Text.{bytes}
 use Rattle.octets.specs.Outcome.{gives, given}
 use Rattle.octets.specs.Compare.{sameBytes}
-use Rattle.octets.specs.Lists.{All, _&_, NoNul, isNil, different}
+use Rattle.octets.specs.Lists.{All, no-more, _&_, NoNul, isNil, different}
 use Rattle.octets.proofs.Outcomes.{need-gives, given-gives, gives-once, then-gives}
-use Rattle.headers.specs.Block.{Header, names, headersOf, Proper}
+use Rattle.headers.specs.Block.{Header, names, headersOf, parsed, Proper}
 use Rattle.headers.specs.Lookup.{valueIn}
 use Rattle.headers.proofs.Claims.{headers-proper}
+use Rattle.lent.specs.Mounts.{Mount, placed, mountsAt}
 use Rattle.lent.specs.Settings.{Auth, Settings, filled, orIn, sought, isPort, portIn, authOf, settingsOf}
 use Rattle.lent.specs.Lent.{Lent, blockOf, mountsOf, lentOf}
 use Rattle.lent.specs.Claims.{ProperAuth, neither, both, ProperSettings, LentIsProper}
@@ -103,6 +104,18 @@ module _ (facts site : List Header) (pf : All Proper facts) (ps : All Proper sit
       (auth-proper (valueIn (bytes "AUTH_TYPE") facts) (valueIn (bytes "REMOTE_USER") facts) (f .it) (value-plain (bytes "AUTH_TYPE") facts pf) (value-plain (bytes "REMOTE_USER") facts pf) (f .first))
       (gives-once _ s (f .next))
 
+-- Mounts.
+
+names-placed : (i : ℕ) (hs : List Header) → All Proper hs → All (λ m. NoNul (m .name)) (placed i hs)
+unfolding placed
+names-placed i [] no-more = no-more
+names-placed i (h ∷ hs) (p & ps) = p .name-bytes & names-placed (i + length (h .name) + 1 + length (h .value) + 1) hs ps
+
+mounts-proper : (block : List ℕ) (ms : List Mount) → mountsAt block ≡ gives ms → All (λ m. NoNul (m .name)) ms
+mounts-proper block ms e =
+    let g = then-gives (parsed block) (λ hs. gives (placed 0 hs)) ms e in
+    rw (← gives-once (placed 0 (g .it)) ms (g .next)) (names-placed 0 (g .it) (headers-proper block (g .it) (g .first)))
+
 pub lent-is-proper : LentIsProper
 unfolding lentOf
 lent-is-proper facts site mounts l e =
@@ -115,5 +128,5 @@ lent-is-proper facts site mounts l e =
       settings =
           settings-proper (a .it) (b .it) (block-proper 1024 facts (a .it) (a .first)) (block-proper 1024 site (b .it) (b .first)) (l .settings)
           (d .first ∙ ap (λ (x : Lent). gives (x .settings)) z);
-      mounts = headers-proper mounts (l .mounts) (lent-mounts facts site mounts l e);
+      mounts = mounts-proper mounts (l .mounts) (lent-mounts facts site mounts l e);
     }

@@ -12,11 +12,13 @@ use Rattle.octets.specs.Kinds.{isDigit}
 use Rattle.octets.specs.Compare.{sameBytes}
 use Rattle.octets.specs.Lists.{isIn, different}
 use Rattle.octets.specs.Decimal.{numberFrom}
+use Rattle.octets.specs.Scan.{count}
 use Rattle.octets.specs.Parts.{parted}
 use Rattle.headers.specs.Block.{Header, paired, printed}
 use Rattle.headers.specs.Lookup.{valueIn}
 use Rattle.lent.specs.Settings.{Settings, settingsOf}
-use Rattle.lent.specs.Mounts.{Route, begins, mountOf, mountFor, routeOf}
+use Rattle.lent.specs.Mounts.{Mount, placed, mountsAt, Route, begins, mountOf, mountFor, routeOf, shortened, mountNamed, triedIn}
+use Rattle.lent.specs.Search.{searchOf}
 use Rattle.lent.specs.Lent.{Lent, ends, allMounts, blockOf, mountsOf, lentOf}
 
 -- What is lent.
@@ -38,8 +40,9 @@ plain =
       serverSoftware = bytes "gate/1";
     }
 
-abbrev pub jobs : Header
-jobs = record { name = bytes "/jobs"; value = bytes "p" }
+-- of the block `/jobs|p|`
+abbrev pub jobs : Mount
+jobs = record { name = bytes "/jobs"; poolStart = 6; poolLength = 1 }
 
 unfoldable pub cases : List Case
 cases =
@@ -105,7 +108,7 @@ breaches =
     ∷ []
 
 pub all-right : map (λ c. lentOf (barred (c .facts)) (barred (c .site)) (barred (c .mounts))) cases ≡ map (λ c. c .answer) cases
-unfolding cases lentOf settingsOf begins ends allMounts valueIn parted paired different isIn sameBytes numberFrom isDigit
+unfolding cases lentOf settingsOf placed begins ends allMounts valueIn parted paired different isIn sameBytes numberFrom isDigit
 all-right = refl
 
 pub all-breaches : map (λ c. lentOf (barred (c .facts)) (barred (c .site)) (barred (c .mounts))) breaches ≡ map (λ c. refused 20) breaches
@@ -135,15 +138,22 @@ paths =
     ∷ record { path = "/"; answer = refused 19 }
     ∷ []
 
-abbrev pub mounted : List Header
-mounted = jobs ∷ record { name = bytes "/jobs/old"; value = bytes "q" } ∷ []
+abbrev pub mounted : List ℕ
+mounted = barred "/jobs|p|/jobs/old|q|"
 
 abbrev pub routed : String → Outcome Route
-routed p = then (mountFor mounted (bytes p)) (λ m. gives (routeOf m (bytes p)))
+routed p = then (mountsAt mounted) (λ ms. then (mountFor ms (bytes p)) (λ m. gives (routeOf m (bytes p))))
 
 pub paths-right : map (λ c. routed (c .path)) paths ≡ map (λ c. c .answer) paths
-unfolding paths mountOf begins sameBytes
+unfolding paths placed mountOf begins sameBytes parted paired
 paths-right = refl
+
+-- the pool is a place in the block: of two equal pools that of the mount that wins, behind its name
+pub pools-right :
+    (searchOf (barred "/a|x|/b|x|") (bytes "/b") ≡ gives (record { nameLength = 2; poolStart = 8; poolLength = 1 }))
+    × (searchOf (barred "/jobs|j|") (bytes "/jobs/7") ≡ gives (record { nameLength = 5; poolStart = 6; poolLength = 1 }))
+unfolding placed triedIn mountNamed shortened count sameBytes parted paired
+pools-right = (refl, refl)
 
 -- The limits, on blocks that are too long to write out.
 
@@ -158,7 +168,7 @@ letters t = map (λ b. record { name = 47 ∷ b ∷ []; value = b ∷ [] }) (byt
 pub limits :
     (blockOf 1024 (printed (filler 1021)) ≡ gives (filler 1021))
     × (blockOf 1024 (printed (filler 1022)) ≡ refused 20)
-    × (mountsOf (printed (letters "ABCDEFGHIJKLMNOPQRSTUVWXYZabcdef")) ≡ gives (letters "ABCDEFGHIJKLMNOPQRSTUVWXYZabcdef"))
+    × (mountsOf (printed (letters "ABCDEFGHIJKLMNOPQRSTUVWXYZabcdef")) ≡ gives (placed 0 (letters "ABCDEFGHIJKLMNOPQRSTUVWXYZabcdef")))
     × (mountsOf (printed (letters "ABCDEFGHIJKLMNOPQRSTUVWXYZabcdefg")) ≡ refused 20)
-unfolding printed begins ends allMounts parted paired different isIn sameBytes
+unfolding printed placed begins ends allMounts parted paired different isIn sameBytes
 limits = (refl, refl, refl, refl)

@@ -8,12 +8,12 @@ use lib.ListN.{length}
 use Rattle.octets.specs.Outcome.{Outcome, gives, then, need, given}
 use Rattle.octets.specs.Lists.{isNil, different}
 use Rattle.headers.specs.Block.{Header, names, headersOf}
-use Rattle.lent.specs.Mounts.{begins}
+use Rattle.lent.specs.Mounts.{Mount, placed, begins}
 use Rattle.lent.specs.Settings.{Settings, settingsOf}
 
 pub record Lent : Type 0 where
   pub settings : Settings
-  pub mounts : List Header
+  pub mounts : List Mount
 
 -- "Three blocks in the form above, no name twice in one", each of at most so many bytes. "Any breach of this section is 20"
 abbrev pub blockOf : ℕ → List ℕ → Outcome (List Header)
@@ -37,8 +37,8 @@ allMounts [] = true
 allMounts (m ∷ ms) = isMount m && allMounts ms
 
 -- "Mounts: at most 4,096 bytes and 32 entries"
-abbrev pub mountsOf : List ℕ → Outcome (List Header)
-mountsOf block = then (blockOf 4096 block) (λ ms. need (leb (length ms) 32) 20 (need (allMounts ms) 20 (gives ms)))
+abbrev pub mountsOf : List ℕ → Outcome (List Mount)
+mountsOf block = then (blockOf 4096 block) (λ ms. need (leb (length ms) 32) 20 (need (allMounts ms) 20 (gives (placed 0 ms))))
 
 -- "Connection facts and site settings: at most 1,024 bytes each"
 unfoldable pub lentOf : (facts site mounts : List ℕ) → Outcome Lent

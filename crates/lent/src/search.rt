@@ -3,7 +3,8 @@ ghost use mathlib.Core.Path.{_≡_};
 ghost use mathlib.Core.Bool.{true};
 ghost use Rattle.headers.specs.Block.{wellFormed};
 ghost use Rattle.lent.specs.Mounts.{slashPart, shortened};
-ghost use Rattle.lent.specs.Search.{MountFound};
+ghost use Rattle.octets.specs.Outcome.{refusalOf};
+ghost use Rattle.lent.specs.Search.{mountOutcome, searchOf};
 use headers::lookup::Place;
 use headers::lookup::seek;
 
@@ -36,28 +37,39 @@ pub enum Mount {
     Refused(u8),
 }
 
+impl Mount {
+    // The number of the refusal.
+    pub fn number(self) -> u8
+        ensures { λ r. ⌜ r ≡ refusalOf (mountOutcome self) ⌝ }
+    {
+        match self {
+            Mount::Found {
+                name_len: _,
+                pool_start: _,
+                pool_len: _,
+            } => 0,
+            Mount::Refused(n) => n,
+        }
+    }
+}
+
 // The longest mount that fits a path: the path is tried as a name, then the path without its last segment, and so on.
 pub fn search(mounts: &[u8], path: &[u8]) -> Mount
     requires { ⌜ wellFormed (now mounts) ≡ true ⌝ }
-    ensures { λ r. ⌜ MountFound (now (mounts .entry)) (now (path .entry)) r ⌝ }
+    ensures { λ r. ⌜ mountOutcome r ≡ searchOf (now (mounts .entry)) (now (path .entry)) ⌝ }
 {
     let p = seek(mounts, path);
-    match p {
-        Place::At { start, len } => {
-            return Mount::Found {
-                name_len: path.len(),
-                pool_start: start,
-                pool_len: len,
-            };
-        }
-        Place::Refused(_) => {
+    let Place::At { start, len } = p else {
+        let s = last_slash(path);
+        let Slash::At(k) = s else {
+            // 19: no mount fits.
             return Mount::Refused(19);
-        }
-        Place::Absent => {}
-    }
-    let s = last_slash(path);
-    let Slash::At(k) = s else {
-        return Mount::Refused(19);
+        };
+        return search(mounts, &path[..k]);
     };
-    search(mounts, &path[..k])
+    Mount::Found {
+        name_len: path.len(),
+        pool_start: start,
+        pool_len: len,
+    }
 }

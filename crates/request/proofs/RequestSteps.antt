@@ -1,257 +1,326 @@
 -- Laws of the steps in which a request's head is read.
 -- Assumes nothing.
-use Prim.Native.Nat.{ℕ, min, _+_, _≤_}
+use Prim.Native.Nat.{ℕ, min, _+_, _-_, _*_, _≤_}
 use Prim.{absurd}
 use mathlib.Core.Path.{_≡_, refl, sym, ap, _∙_}
-use mathlib.Core.Bool.{Bool, true, false, _||_, false≢true}
-use mathlib.Core.List.{List}
+use mathlib.Core.Bool.{Bool, true, false, cond, _||_, false≢true}
+use mathlib.Core.List.{List, [], _∷_}
+use native.Mathlib.Nat.{sub-zero}
 use native.Mathlib.Omega.{arith}
 use lib.ListN.{length, take, drop, getD, length-take, length-drop}
+use lib.Seq.{length-take-le}
 use Rattle.octets.specs.Text.{bytes}
-use Rattle.octets.specs.Outcome.{Outcome, refused, gives, then}
+use Rattle.octets.specs.Outcome.{Outcome, refused, gives, then, need}
 use Rattle.octets.specs.Kinds.{isName}
 use Rattle.octets.specs.Compare.{sameBytes}
-use Rattle.octets.specs.Decimal.{cap}
+use Rattle.octets.specs.Copy.{over}
 use Rattle.octets.proofs.Compares.{same-true}
 use Rattle.octets.proofs.Lists.{part-take}
-use Rattle.octets.proofs.Outcomes.{Gave, then-gives}
+use Rattle.octets.proofs.Outcomes.{Gave, need-gives, gives-once, then-gives}
 use Rattle.http.specs.Lines.{linesOf, lineRun}
-use Rattle.http.specs.RequestLine.{FirstLine, requestLineOf, versionText, isServed, lineOutcome, methodEnd, targetEnd}
-use Rattle.targets.specs.Target.{Target, targetOf, TargetRead}
-use Rattle.http.specs.Fields.{Field, fieldsOf, fieldsAt, Stored}
+use Rattle.http.specs.RequestLine as RequestLine
+use Rattle.http.specs.RequestLine.{FirstLine, LineParts, linePlaces, linePlacesOf, requestLineOf, versionText, isServed}
+use Rattle.http.specs.Fields.{Field, fieldsOf, placesFrom, placesOf, fieldsAt, Stored}
+use Rattle.http.specs.Claims.{LineStands, FieldsStand}
 use Rattle.http.specs.declared.request_line.RequestLine.the-variants.{Line, Refused as LineMalformed}
-use Rattle.targets.specs.declared.target.TargetPlace.the-variants.{Path, Refused as TargetRefused}
 use Rattle.http.specs.declared.fields.Fields.the-variants.{Count, Refused as FieldsRefused}
-use Rattle.http.proofs.LineCuts.{first-line}
-use Rattle.http.proofs.Requests.{line-read}
-use Rattle.targets.proofs.TargetsAccepted.{read-accepted, path-within, decoded-within}
-use Rattle.http.proofs.Places.{stored-count}
+use Rattle.http.proofs.Claims.{first-line-stands, line-is-made, lines-told, fields-told}
+use Rattle.targets.specs.Escape.{decoded}
+use Rattle.targets.specs.Target.{Target, pathOf, rawRight, targetOf, Lengths, lengthsOf, written, TargetRead}
+use Rattle.targets.specs.declared.target.TargetPlace.the-variants.{Path, Refused as TargetRefused}
+use Rattle.targets.proofs.Claims.{targets-told}
 use Rattle.request.specs.Named.{lowered}
 use Rattle.request.specs.Request.{Request, rulesOf, requestOf}
-use Rattle.request.specs.Rules.{cappedOutcome, RulesRead}
-use Rattle.request.specs.RequestRead.{LineKnown, Start, startOf, LineRead, Stating, statingOf, FieldsRead, cappedRequest, requestIn, lineIn, pathIn, fieldsIn, RequestRead}
-use Rattle.request.specs.declared.rules.Rules.the-variants.{Body, Refused as RulesRefused}
+use Rattle.request.specs.Rules.{foundOf, cappedOutcome, Judged, judged, judgedOf}
+use Rattle.request.specs.RequestRead.{Start, startOf, minorOf, linePlaced, targetIn, LineRead, Stating, statingOf, fieldsPlaced, FieldsRead, cappedRequest, Placed, placedIn, RequestRead}
+use Rattle.request.specs.declared.rules.Found.{Found}
 use Rattle.request.specs.declared.read.LinePlaces.{LinePlaces}
 use Rattle.request.specs.declared.read.Line.the-variants.{At as LineAt, Refused as LineRefused}
 use Rattle.request.specs.declared.read.FieldPlaces.{FieldPlaces}
 use Rattle.request.specs.declared.read.Rest.the-variants.{At as FieldsAt, Refused as RestRefused}
 use Rattle.request.specs.declared.read.Reading.the-variants.{Request as ReadRequest, Refused}
+use Rattle.request.proofs.NamedFields.{found-front}
 
--- The request line; end is where it ends.
+-- a step that is told by its answer's numbers is refused where the step is
+pub refused-so : {A B : Type 0} (o : Outcome A) (f : A → B) (k : ℕ) → refused k ≡ then o (λ a. gives (f a)) → o ≡ refused k
+refused-so (refused n) f k e = cc
+refused-so (gives a) f k e = cc
 
--- a version that is served
-served-minor : (d : ℕ) → isServed (versionText d) ≡ true → d ≤ 1
-served-minor d = by (sameBytes (versionText d) (bytes "HTTP/1.0")) (sameBytes (versionText d) (bytes "HTTP/1.1")) refl refl
+-- THE REQUEST LINE; end is where it ends
+
+-- a version that is served, by its second digit
+pub minor-text : (v : List ℕ) → isServed v ≡ true → versionText (minorOf v) ≡ v
+minor-text v = by (sameBytes v (bytes "HTTP/1.0")) (sameBytes v (bytes "HTTP/1.1")) refl refl
   where
     by :
-        (t u : Bool) → sameBytes (versionText d) (bytes "HTTP/1.0") ≡ t → sameBytes (versionText d) (bytes "HTTP/1.1") ≡ u → t || u ≡ true → d ≤ 1
-    by true u p q e =
-        let z : 48 + d ≡ 48 = ap (λ (s : List ℕ). getD s 7 0) (same-true (versionText d) (bytes "HTTP/1.0") p) in
-        omega arith
-    by false true p q e =
-        let z : 48 + d ≡ 49 = ap (λ (s : List ℕ). getD s 7 0) (same-true (versionText d) (bytes "HTTP/1.1") q) in
-        omega arith
+        (t u : Bool) → sameBytes v (bytes "HTTP/1.0") ≡ t → sameBytes v (bytes "HTTP/1.1") ≡ u → t || u ≡ true → versionText (minorOf v) ≡ v
+    by true u p q e = rw (same-true v (bytes "HTTP/1.0") p)
+    by false true p q e = rw (same-true v (bytes "HTTP/1.1") q)
     by false false p q e = absurd (false≢true e)
 
-abbrev startWith : Outcome FirstLine → Outcome Start
-startWith o = then o (λ first. then (targetOf (first .target)) (λ target. gives (record { first = first; path = target .path })))
+abbrev startWith : List ℕ → Outcome FirstLine → Outcome LinePlaces
+startWith head o =
+    then (then o (λ first. then (targetOf (first .target)) (λ target. gives (record { first = first; path = target .path })))) (λ s. gives (linePlaced head s))
 
-abbrev startFrom : FirstLine → Outcome Target → Outcome Start
-startFrom first o = then o (λ target. gives (record { first = first; path = target .path }))
+abbrev startFrom : List ℕ → FirstLine → Outcome Target → Outcome LinePlaces
+startFrom head first o = then (then o (λ target. gives (record { first = first; path = target .path }))) (λ s. gives (linePlaced head s))
 
 -- a buffer with room for the head has room for a part of it
 pub part-room : (head path : List ℕ) (t n : ℕ) → min (length head) 4096 ≤ length path → min (length (take n (drop t head))) 4096 ≤ length path
 part-room head path t n h = simp (length-take, length-drop) (omega arith)
+
+-- what is written to the buffer for an accepted target
+written-path : (t : List ℕ) (x : Target) → targetOf t ≡ gives x → written t ≡ decoded (pathOf t)
+unfolding targetOf
+written-path t x e = ap (λ (b : Bool). cond b (decoded (pathOf t)) []) (need-gives (rawRight t) 14 _ x e .0)
 
 module _ (head : List ℕ) (end : ℕ) (at : end ≡ 0 + lineRun (drop 0 head)) where
   end-is : end ≡ lineRun head
   end-is = omega arith
 
   first-is : linesOf head .first ≡ take end head
-  first-is = first-line head ∙ ap (λ (k : ℕ). take k head) (sym end-is)
+  first-is = first-line-stands .first head ∙ ap (λ (k : ℕ). take k head) (sym end-is)
 
-  pub malformed : (path : List ℕ) (k : ℕ) → lineOutcome (take end head) (LineMalformed k) ≡ requestLineOf (take end head) → LineRead head path (LineRefused k)
-  malformed path k e =
-      record { answer = ap startWith (e ∙ ap requestLineOf (sym first-is)); known = tt }
+  pub malformed :
+      (before after : List ℕ) (k : ℕ) → RequestLine.lineOutcome (LineMalformed k) ≡ linePlacesOf (take end head) → LineRead head before after (LineRefused k)
+  malformed before after k e =
+      record { answer = ap (startWith head) (lines-told .refuses (take end head) k e ∙ ap requestLineOf (sym first-is)); buffer = tt }
 
-  module _
-      (m t n d : ℕ) (says : lineOutcome (take end head) (Line m t n d) ≡ requestLineOf (take end head))
-      (a : methodEnd (Line m t n d) ≤ length (take end head)) (b : targetEnd (Line m t n d) ≤ length (take end head)) where
+  module _ (m t n d : ℕ) (says : RequestLine.lineOutcome (Line m t n d) ≡ linePlacesOf (take end head)) where
+    stands : LineStands (take end head) m t n d
+    stands = lines-told .accepts (take end head) m t n d says
+
     pub target-in : t + n ≤ length head
-    target-in = omega (arith, b, length-take end head)
+    target-in = omega (arith, stands .target-inside, length-take end head)
 
     method-in : m ≤ length head
-    method-in = omega (arith, a, length-take end head)
+    method-in = omega (arith, stands .method-inside, length-take end head)
 
-    line-is : requestLineOf (linesOf head .first) ≡ gives (record { method = take m head; target = take n (drop t head); version = versionText d })
+    abbrev first : FirstLine
+    first = record { method = take m head; target = take n (drop t head); version = versionText d }
+
+    line-is : requestLineOf (linesOf head .first) ≡ gives first
     line-is =
-        ap requestLineOf first-is ∙ sym says
-        ∙ rw (part-take head end 0 m (omega (arith, a)), part-take head end t n b)
+        ap requestLineOf first-is ∙ sym (stands .answer)
+        ∙ rw (part-take head end 0 m (omega (arith, stands .method-inside)), part-take head end t n (stands .target-inside))
+
+    -- "the target starts one after the method's space"
+    target-at : t ≡ length (take m head) + 1
+    target-at =
+        let e : gives (record { methodLength = m; targetStart = t; targetLength = n; version = versionText d }) ≡ gives (linePlaces first) =
+        says ∙ ap (λ (o : Outcome FirstLine). then o (λ f. gives (linePlaces f))) (ap requestLineOf (sym first-is) ∙ line-is) in
+        ap (λ (p : LineParts). p .targetStart) (gives-once _ (linePlaces first) e)
 
     module _ (before after : List ℕ) where
-      pub bad-target : (k : ℕ) → TargetRead (take n (drop t head)) before after (TargetRefused k) → LineRead head after (LineRefused k)
+      pub bad-target : (k : ℕ) → TargetRead (take n (drop t head)) before after (TargetRefused k) → LineRead head before after (LineRefused k)
       bad-target k w =
           record {
-            answer =
-                ap (startFrom (record { method = take m head; target = take n (drop t head); version = versionText d })) (w .answer)
-                ∙ ap startWith (sym line-is);
-            known = tt;
+            answer = ap (startFrom head first) (targets-told .refuses (take n (drop t head)) before after k w) ∙ ap (startWith head) (sym line-is);
+            buffer = tt;
           }
 
-      module _ (p q : ℕ) (w : TargetRead (take n (drop t head)) before after (Path p q)) (whole : min (length head) 4096 ≤ length before) where
-        room : min (length (take n (drop t head))) 4096 ≤ length before
-        room = part-room head before t n whole
+      module _ (p q : ℕ) (w : TargetRead (take n (drop t head)) before after (Path p q)) where
+        abbrev places : LinePlaces
+        places = record { end = end; method = m; target = t; len = n; minor = d; path = p; decoded = q }
 
-        facts : LineKnown head after (record { end = end; method = m; target = t; len = n; minor = d; path = p; decoded = q })
-        facts =
-            let s = take n (drop t head) in
-            let x = read-accepted s before after p q room w in
-            let i : q ≤ length after = decoded-within s before after p q room w in
-            let j : length (take q after) ≤ length s = x .path-le in
-            record {
-              line-end = end-is;
-              method-inside = method-in;
-              target-inside = target-in;
-              minor-is = served-minor d (line-read _ _ line-is .served);
-              path-length = w .measured .0;
-              path-inside = omega (arith, path-within s before after p q room w, length-take n (drop t head));
-              query-is = sym (x .query-is);
-              decoded-inside = i;
-              decoded-short = omega (arith, i, j, length-take q after, x .raw .short);
-            }
+        placed :
+            (o : Outcome Target) → _≡_ {A = Outcome Lengths} (gives (record { path = p; decoded = q })) (then o (λ x. gives (record { path = length (pathOf (take n (drop t head))); decoded = length (x .path) })))
+            → gives places ≡ startFrom head first o
+        placed (refused k) e = absurd (let z : _≡_ {A = ℕ} 0 1 = cc in omega arith)
+        placed (gives x) e =
+            let l = gives-once {A = Lengths} _ _ e in
+            let a : m ≡ length (take m head) = sym (length-take-le m head method-in) in
+            let b : n ≡ length (take n (drop t head)) = sym (length-take-le n (drop t head) (omega (arith, target-in, length-drop t head))) in
+            let c : d ≡ 48 + d - 48 = omega arith in
+            all-same end-is a target-at b c (ap (λ (y : Lengths). y .path) l) (ap (λ (y : Lengths). y .decoded) l)
+          where
+            all-same :
+                {e e′ m m′ t t′ n n′ d d′ p p′ q q′ : ℕ} → e ≡ e′ → m ≡ m′ → t ≡ t′ → n ≡ n′ → d ≡ d′ → p ≡ p′ → q ≡ q′
+                → _≡_ {A = Outcome LinePlaces} (gives (record { end = e; method = m; target = t; len = n; minor = d; path = p; decoded = q }))
+                (gives (record { end = e′; method = m′; target = t′; len = n′; minor = d′; path = p′; decoded = q′ }))
+            all-same e m t n d p q = rw (e, m, t, n, d, p, q)
 
-        pub line-read-whole : LineRead head after (LineAt (record { end = end; method = m; target = t; len = n; minor = d; path = p; decoded = q }))
+        pub line-read-whole : LineRead head before after (LineAt places)
         line-read-whole =
+            let x = then-gives (targetOf (take n (drop t head))) _ (record { path = p; decoded = q }) (sym (w .answer)) in
             record {
-              answer =
-                  ap (startFrom (record { method = take m head; target = take n (drop t head); version = versionText d })) (w .answer)
-                  ∙ ap startWith (sym line-is);
-              known = facts;
+              answer = placed (targetOf (take n (drop t head))) (w .answer) ∙ ap (startWith head) (sym line-is);
+              buffer = w .buffer ∙ ap (over before 0) (written-path (take n (drop t head)) (x .it) (x .first));
             }
 
--- The fields.
+-- the line that was read ends where the first line does
+pub ends-at : (head before after : List ℕ) (line : LinePlaces) → LineRead head before after (LineAt line) → line .end ≡ lineRun head
+ends-at head before after line l =
+    let s = then-gives (startOf head) (λ s. gives (linePlaced head s)) line (sym (l .answer)) in
+    ap (λ (y : LinePlaces). y .end) (sym (gives-once _ line (s .next)))
 
-abbrev statingWith : List ℕ → Outcome (List Field) → Outcome Stating
-statingWith version o =
-    then o (λ fields. then (cappedOutcome (rulesOf version (lowered fields))) (λ n. gives (record { fields = fields; bodyLength = n })))
+-- THE FIELDS
 
-abbrev statingFrom : List Field → Outcome ℕ → Outcome Stating
-statingFrom fields o = then o (λ n. gives (record { fields = fields; bodyLength = n }))
+abbrev statingWith : List ℕ → List ℕ → Outcome (List Field) → Outcome FieldPlaces
+statingWith head version o =
+    then (then o (λ fields. then (cappedOutcome (rulesOf version (lowered fields))) (λ n. gives (record { fields = fields; bodyLength = n })))) (λ g. gives (fieldsPlaced head g))
+
+-- four numbers are stored for each line
+places-length : (at : ℕ) (ls : List (List ℕ)) → length (placesFrom at ls) ≡ 4 * length ls
+unfolding placesFrom
+places-length at [] = refl
+places-length at (l ∷ ls) = omega (arith, places-length (at + length l + 2) ls)
+
+module _ (head before after : List ℕ) (n : ℕ) (s : Stored isName head before after (Count n)) where
+  stand : FieldsStand isName head after n
+  stand = fields-told .accepts isName head before after n s
+
+  -- how many fields there are
+  pub counted : length (fieldsAt head after 0 n) ≡ n
+  counted =
+      let e : gives (length (fieldsAt head after 0 n)) ≡ gives n =
+      ap (λ (o : Outcome (List Field)). then o (λ fs. gives (length fs))) (stand .answer) ∙ sym (s .answer) in
+      gives-once _ n e
+
+  -- what is found of a name by the list is what is found by the numbers that were stored in it
+  pub found-stored : (name : List ℕ) → foundOf name head after n ≡ foundOf name head (placesOf head) n
+  unfolding over
+  found-stored name =
+      ap (λ (ps : List ℕ). foundOf name head ps n) (s .numbers)
+      ∙ found-front name head (placesOf head) (drop (0 + length (placesOf head)) before) n (omega (arith, places-length (lineRun head + 2) (linesOf head .others), stand .count))
 
 module _ (head version before after : List ℕ) where
-  pub bad-fields : (k : ℕ) → Stored isName (linesOf head .others) head before after (FieldsRefused k) → FieldsRead head version after (RestRefused k)
-  bad-fields k s = record { answer = ap (statingWith version) (s .answer); known = tt }
+  pub bad-fields : (k : ℕ) → Stored isName head before after (FieldsRefused k) → FieldsRead head version before after (RestRefused k)
+  bad-fields k s = record { answer = ap (statingWith head version) (fields-told .refuses isName head before after k s); numbers = tt }
 
-  module _ (n : ℕ) (s : Stored isName (linesOf head .others) head before after (Count n)) where
-    pub bad-rules : (k : ℕ) → RulesRead head version (fieldsAt head after 0 n) (RulesRefused k) → FieldsRead head version after (RestRefused k)
-    bad-rules k r = record { answer = ap (statingFrom (fieldsAt head after 0 n)) (r .answer) ∙ ap (statingWith version) (s .answer); known = tt }
+  module _ (n : ℕ) (s : Stored isName head before after (Count n)) where
+    abbrev fields : List Field
+    fields = fieldsAt head after 0 n
+
+    abbrev statingFrom : Outcome ℕ → Outcome FieldPlaces
+    statingFrom o = then (then o (λ m. gives (record { fields = fields; bodyLength = m }))) (λ g. gives (fieldsPlaced head g))
+
+    abbrev judgedFrom : Outcome ℕ → Outcome Judged
+    judgedFrom o = then o (λ m. gives (judged m (foundOf (bytes "content-type") head after n)))
+
+    pub bad-rules : (k : ℕ) → refused k ≡ judgedOf version head after n → FieldsRead head version before after (RestRefused k)
+    bad-rules k r =
+        let e : cappedOutcome (rulesOf version (lowered fields)) ≡ refused k = refused-so (cappedOutcome (rulesOf version (lowered fields))) _ k r in
+        record { answer = sym (ap statingFrom e) ∙ ap (statingWith head version) (stand head before after n s .answer); numbers = tt }
 
     pub fields-read-whole :
-        (len : ℕ) (there : Bool) (a b : ℕ) → RulesRead head version (fieldsAt head after 0 n) (Body len there a b)
-        → FieldsRead head version after (FieldsAt (record { count = n; body = len; typed = there; start = a; len = b }))
+        (len : ℕ) (there : Bool) (a b : ℕ) → gives (record { body = len; typed = there; start = a; len = b }) ≡ judgedOf version head after n
+        → FieldsRead head version before after (FieldsAt (record { count = n; body = len; typed = there; start = a; len = b }))
     fields-read-whole len there a b r =
         record {
-          answer = ap (statingFrom (fieldsAt head after 0 n)) (r .answer) ∙ ap (statingWith version) (s .answer);
-          known = record { few = stored-count s .1; inside = s .inside; type-is = r .content-type .0; type-inside = r .content-type .1 };
+          answer = placed (cappedOutcome (rulesOf version (lowered fields))) r ∙ ap (statingWith head version) (stand head before after n s .answer);
+          numbers = s .numbers;
         }
+      where
+        same :
+            (m : ℕ) → record { body = len; typed = there; start = a; len = b } ≡ judged m (foundOf (bytes "content-type") head after n)
+            → record { count = n; body = len; typed = there; start = a; len = b } ≡ fieldsPlaced head (record { fields = fields; bodyLength = m })
+        same m e =
+            ap (λ (j : Judged). record { count = n; body = j .body; typed = j .typed; start = j .start; len = j .len }) e
+            ∙ rw (counted head before after n s, found-stored head before after n s (bytes "content-type"))
 
--- The request.
+        placed :
+            (o : Outcome ℕ) → gives (record { body = len; typed = there; start = a; len = b }) ≡ judgedFrom o
+            → gives (record { count = n; body = len; typed = there; start = a; len = b }) ≡ statingFrom o
+        placed (refused k) e = absurd (let z : _≡_ {A = ℕ} 0 1 = cc in omega arith)
+        placed (gives m) e = ap gives (same m (gives-once {A = Judged} _ _ e))
 
-abbrev both : Start → Outcome Stating → Outcome Request
-both s o = then o (λ g. gives (record { first = s .first; path = s .path; fields = g .fields; bodyLength = g .bodyLength }))
+-- THE REQUEST
+
+abbrev placedBy : List ℕ → Start → Stating → Placed
+placedBy head s g = record { line = linePlaced head s; fields = fieldsPlaced head g }
 
 -- the chain of a request is that of its line, and then that of its fields
 chain :
-    (o : Outcome FirstLine) (F : FirstLine → Outcome Target) (G : Outcome (List Field)) (R : List ℕ → List Field → Outcome ℕ)
-    → then (then o (λ first. then (F first) (λ target. then G (λ fields. then (R (first .version) fields) (λ n. gives (record { first = first; path = target .path; fields = fields; bodyLength = n })))))) (λ q. gives (cappedRequest q))
+    (head : List ℕ) (o : Outcome FirstLine) (F : FirstLine → Outcome Target) (G : Outcome (List Field)) (R : List ℕ → List Field → Outcome ℕ)
+    → then (then o (λ first. then (F first) (λ target. then G (λ fields. then (R (first .version) fields) (λ n. gives (record { first = first; path = target .path; fields = fields; bodyLength = n })))))) (λ q. gives (placedIn head (cappedRequest q)))
     ≡ then (then o (λ first. then (F first) (λ target. gives (record { first = first; path = target .path }))))
-    (λ s. both s (then G (λ fields. then (cappedOutcome (R (s .first .version) fields)) (λ n. gives (record { fields = fields; bodyLength = n })))))
-chain (refused n) F G R = refl
-chain (gives first) F G R = by (F first) G
+    (λ s. then (then G (λ fields. then (cappedOutcome (R (s .first .version) fields)) (λ n. gives (record { fields = fields; bodyLength = n })))) (λ g. gives (placedBy head s g)))
+chain head (refused n) F G R = refl
+chain head (gives first) F G R = by (F first) G
   where
     rules :
         (target : Target) (fields : List Field) (o : Outcome ℕ)
-        → then (then o (λ n. gives (record { first = first; path = target .path; fields = fields; bodyLength = n }))) (λ q. gives (cappedRequest q))
-        ≡ both (record { first = first; path = target .path }) (then (cappedOutcome o) (λ n. gives (record { fields = fields; bodyLength = n })))
+        → then (then o (λ n. gives (record { first = first; path = target .path; fields = fields; bodyLength = n }))) (λ q. gives (placedIn head (cappedRequest q)))
+        ≡ then (then (cappedOutcome o) (λ n. gives (record { fields = fields; bodyLength = n }))) (λ g. gives (placedBy head (record { first = first; path = target .path }) g))
     rules target fields (refused n) = refl
     rules target fields (gives n) = refl
 
     by :
         (o : Outcome Target) (G : Outcome (List Field))
-        → then (then o (λ target. then G (λ fields. then (R (first .version) fields) (λ n. gives (record { first = first; path = target .path; fields = fields; bodyLength = n }))))) (λ q. gives (cappedRequest q))
+        → then (then o (λ target. then G (λ fields. then (R (first .version) fields) (λ n. gives (record { first = first; path = target .path; fields = fields; bodyLength = n }))))) (λ q. gives (placedIn head (cappedRequest q)))
         ≡ then (then o (λ target. gives (record { first = first; path = target .path })))
-        (λ s. both s (then G (λ fields. then (cappedOutcome (R (s .first .version) fields)) (λ n. gives (record { fields = fields; bodyLength = n })))))
+        (λ s. then (then G (λ fields. then (cappedOutcome (R (s .first .version) fields)) (λ n. gives (record { fields = fields; bodyLength = n })))) (λ g. gives (placedBy head s g)))
     by (refused n) G = refl
     by (gives target) (refused n) = refl
     by (gives target) (gives fields) = rules target fields (R (first .version) fields)
 
 module _ (head : List ℕ) where
-  whole : then (requestOf head) (λ q. gives (cappedRequest q)) ≡ then (startOf head) (λ s. both s (statingOf head (s .first .version)))
+  whole :
+      then (requestOf head) (λ q. gives (placedIn head (cappedRequest q)))
+      ≡ then (startOf head) (λ s. then (statingOf head (s .first .version)) (λ g. gives (placedBy head s g)))
   unfolding requestOf
   whole =
-      chain (requestLineOf (linesOf head .first)) (λ first. targetOf (first .target)) (fieldsOf isName (linesOf head .others))
+      chain head (requestLineOf (linesOf head .first)) (λ first. targetOf (first .target)) (fieldsOf isName (linesOf head .others))
       (λ version fields. rulesOf version (lowered fields))
 
-  abbrev withFields : Outcome Start → Outcome Request
-  withFields o = then o (λ s. both s (statingOf head (s .first .version)))
+  abbrev withFields : Outcome Start → Outcome Placed
+  withFields o = then o (λ s. then (statingOf head (s .first .version)) (λ g. gives (placedBy head s g)))
 
-  pub no-line : (places path : List ℕ) (k : ℕ) → LineRead head path (LineRefused k) → RequestRead head places path (Refused k)
-  no-line places path k l = record { answer = ap withFields (l .answer) ∙ sym whole; known = tt }
+  module _ (places places′ path path′ : List ℕ) where
+    pub no-line : (k : ℕ) → LineRead head path path′ (LineRefused k) → RequestRead head places places′ path path′ (Refused k)
+    no-line k l = record { answer = sym (whole ∙ ap withFields (refused-so (startOf head) (linePlaced head) k (l .answer))); stored = tt }
 
-  module _ (places path : List ℕ) (line : LinePlaces) (l : LineRead head path (LineAt line)) where
-    abbrev start : Start
-    start = record { first = lineIn head line; path = pathIn path line }
+    module _ (line : LinePlaces) (l : LineRead head path path′ (LineAt line)) where
+      started : Gave (startOf head) (λ s. gives (linePlaced head s)) line
+      started = then-gives (startOf head) (λ s. gives (linePlaced head s)) line (sym (l .answer))
 
-    pub no-fields : (k : ℕ) → FieldsRead head (versionText (line .minor)) places (RestRefused k) → RequestRead head places path (Refused k)
-    no-fields k f = record { answer = ap (both start) (f .answer) ∙ ap withFields (l .answer) ∙ sym whole; known = tt }
+      line-told : linePlaced head (started .it) ≡ line
+      line-told = gives-once _ line (started .next)
 
-    pub request-read :
-        (fields : FieldPlaces) → FieldsRead head (versionText (line .minor)) places (FieldsAt fields) → RequestRead head places path (ReadRequest line fields)
-    request-read fields f =
-        record { answer = ap (both start) (f .answer) ∙ ap withFields (l .answer) ∙ sym whole; known = (l .known, f .known) }
+      -- the version is the one that the line's digit tells
+      version-is : versionText (line .minor) ≡ started .it .first .version
+      version-is =
+          let s : Start = started .it in
+          let a = then-gives (requestLineOf (linesOf head .first)) _ s (started .first) in
+          let b = then-gives (targetOf (a .it .target)) _ s (a .next) in
+          let f : record { first = a .it; path = b .it .path } ≡ s = gives-once {A = Start} _ s (b .next) in
+          let g : a .it ≡ s .first = ap (λ (y : Start). y .first) f in
+          let r = line-is-made (linesOf head .first) (a .it) .0 (a .first) in
+          ap (λ (y : LinePlaces). versionText (y .minor)) (sym line-told)
+          ∙ ap (λ (y : FirstLine). versionText (minorOf (y .version))) (sym g)
+          ∙ minor-text (a .it .version) (r .served)
+          ∙ ap (λ (y : FirstLine). y .version) g
 
--- FOR CALLERS: what an answer says of the request.
+      stating-is : statingOf head (versionText (line .minor)) ≡ statingOf head (started .it .first .version)
+      stating-is = ap (statingOf head) version-is
 
-pub read-refused : {head places path : List ℕ} {k : ℕ} → RequestRead head places path (Refused k) → requestOf head ≡ refused k
-read-refused {head} {k = k} r = by (requestOf head) (r .answer)
-  where
-    by : (o : Outcome Request) → refused k ≡ then o (λ q. gives (cappedRequest q)) → o ≡ refused k
-    by (refused n) e = cc
-    by (gives q) e = cc
+      whole-from : then (requestOf head) (λ q. gives (placedIn head (cappedRequest q))) ≡ then (statingOf head (versionText (line .minor))) (λ g. gives (placedBy head (started .it) g))
+      whole-from =
+          whole ∙ ap withFields (started .first)
+          ∙ ap (λ (o : Outcome Stating). then o (λ g. gives (placedBy head (started .it) g))) (sym stating-is)
 
--- the request whose parts stand at the places, whatever its body length
-pub record ReadAs (head places path : List ℕ) (line : LinePlaces) (fields : FieldPlaces) : Type 0 where
-  pub request : Request
-  pub gave : requestOf head ≡ gives request
-  pub first-is : request .first ≡ lineIn head line
-  pub path-is : request .path ≡ pathIn path line
-  pub fields-are : request .fields ≡ fieldsIn head places fields
-  pub body-is : min (request .bodyLength) cap ≡ fields .body
+      pub no-fields : (k : ℕ) → FieldsRead head (versionText (line .minor)) places places′ (RestRefused k) → RequestRead head places places′ path path′ (Refused k)
+      no-fields k f =
+          record {
+            answer = sym (whole-from ∙ ap (λ (o : Outcome Stating). then o (λ g. gives (placedBy head (started .it) g))) (refused-so (statingOf head (versionText (line .minor))) (fieldsPlaced head) k (f .answer)));
+            stored = tt;
+          }
 
-module _ {head places path : List ℕ} {line : LinePlaces} {fields : FieldPlaces} (r : RequestRead head places path (ReadRequest line fields)) where
-  given : Gave (requestOf head) (λ q. gives (cappedRequest q)) (requestIn head places path line fields)
-  given = then-gives (requestOf head) (λ q. gives (cappedRequest q)) (requestIn head places path line fields) (sym (r .answer))
-
-  same : cappedRequest (given .it) ≡ requestIn head places path line fields
-  same =
-      let e : gives (cappedRequest (given .it)) ≡ gives (requestIn head places path line fields) = given .next in
-      cc
-
-  pub read-as : ReadAs head places path line fields
-  read-as =
-      record {
-        request = given .it;
-        gave = given .first;
-        first-is = ap (λ (q : Request). q .first) same;
-        path-is = ap (λ (q : Request). q .path) same;
-        fields-are = ap (λ (q : Request). q .fields) same;
-        body-is = ap (λ (q : Request). q .bodyLength) same;
-      }
-
-  -- a body length within the limit is told as it is
-  pub read-whole : fields .body ≤ 1048576 → requestOf head ≡ gives (requestIn head places path line fields)
-  read-whole h =
-      let q = given .it in
-      let b : min (q .bodyLength) cap ≡ fields .body = ap (λ (q : Request). q .bodyLength) same in
-      let z : q .bodyLength ≡ min (q .bodyLength) cap = omega arith in
-      given .first ∙ ap (λ (n : ℕ). gives (record { first = q .first; path = q .path; fields = q .fields; bodyLength = n })) z ∙ ap gives same
+      pub request-read :
+          (fields : FieldPlaces) → FieldsRead head (versionText (line .minor)) places places′ (FieldsAt fields)
+          → RequestRead head places places′ path path′ (ReadRequest line fields)
+      request-read fields f =
+          let g = then-gives (statingOf head (versionText (line .minor))) (λ g. gives (fieldsPlaced head g)) fields (sym (f .answer)) in
+          let e : fieldsPlaced head (g .it) ≡ fields = gives-once _ fields (g .next) in
+          record {
+            answer =
+                sym
+                (whole-from
+                ∙ ap (λ (o : Outcome Stating). then o (λ g. gives (placedBy head (started .it) g))) (g .first)
+                ∙ both line-told e);
+            stored = (f .numbers, l .buffer);
+          }
+        where
+          both : {a b : LinePlaces} {c d : FieldPlaces} → a ≡ b → c ≡ d → _≡_ {A = Outcome Placed} (gives (record { line = a; fields = c })) (gives (record { line = b; fields = d }))
+          both p q = rw (p, q)

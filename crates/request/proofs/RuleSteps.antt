@@ -15,37 +15,36 @@ use Rattle.octets.specs.Outcome.{Outcome, refused, gives, then, need, given}
 use Rattle.octets.specs.Compare.{sameBytes, lowerOf}
 use Rattle.octets.specs.Decimal.{capped, numberOf}
 use Rattle.http.specs.RequestLine.{versionText}
-use Rattle.http.specs.Fields.{Field}
+use Rattle.http.specs.Fields.{Field, fieldsAt, AllInside}
 use Rattle.request.specs.Named.{lowered, valuesOf}
 use Rattle.request.specs.Request.{hostRight, statedBy, contentOf, rulesOf}
-use Rattle.request.specs.Rules.{partIf, FoundIn, cappedOutcome, RulesRead}
-use Rattle.request.specs.declared.rules.Rules.the-variants.{Body, Refused}
+use Rattle.request.specs.Rules.{foundOf, cappedOutcome, judged, judgedOf}
+use Rattle.request.specs.RequestRead.{partIf}
+use Rattle.request.specs.declared.rules.Found.{Found}
+use Rattle.request.proofs.NamedFields.{FoundIn, found-in}
 
 -- The names that the rules ask for have no upper case.
 
-module _ (fs : List Field) {head : List ℕ} {count start len : ℕ} where
-  in-lower : (n : List ℕ) → map lowerOf n ≡ n → FoundIn head (valuesOf (map lowerOf n) fs) count start len → FoundIn head (valuesOf n fs) count start len
-  in-lower n e f = rw e at f
+module _ (head ps : List ℕ) (n : ℕ) (i : AllInside head ps n) {r : Found} where
+  in-lower :
+      (name : List ℕ) → map lowerOf name ≡ name → r ≡ foundOf name head ps n → FoundIn head (valuesOf name (lowered (fieldsAt head ps 0 n))) r
+  in-lower name e f = rw f (rw e at (found-in name head ps n i))
 
-  pub hosts : FoundIn head (valuesOf (map lowerOf (bytes "host")) fs) count start len → FoundIn head (valuesOf (bytes "host") fs) count start len
+  pub hosts : r ≡ foundOf (bytes "host") head ps n → FoundIn head (valuesOf (bytes "host") (lowered (fieldsAt head ps 0 n))) r
   unfolding lowerOf
   hosts = in-lower (bytes "host") refl
 
   pub lengths :
-      FoundIn head (valuesOf (map lowerOf (bytes "content-length")) fs) count start len
-      → FoundIn head (valuesOf (bytes "content-length") fs) count start len
+      r ≡ foundOf (bytes "content-length") head ps n → FoundIn head (valuesOf (bytes "content-length") (lowered (fieldsAt head ps 0 n))) r
   unfolding lowerOf
   lengths = in-lower (bytes "content-length") refl
 
-  pub types :
-      FoundIn head (valuesOf (map lowerOf (bytes "content-type")) fs) count start len
-      → FoundIn head (valuesOf (bytes "content-type") fs) count start len
+  pub types : r ≡ foundOf (bytes "content-type") head ps n → FoundIn head (valuesOf (bytes "content-type") (lowered (fieldsAt head ps 0 n))) r
   unfolding lowerOf
   types = in-lower (bytes "content-type") refl
 
   pub codings :
-      FoundIn head (valuesOf (map lowerOf (bytes "transfer-encoding")) fs) count start len
-      → FoundIn head (valuesOf (bytes "transfer-encoding") fs) count start len
+      r ≡ foundOf (bytes "transfer-encoding") head ps n → FoundIn head (valuesOf (bytes "transfer-encoding") (lowered (fieldsAt head ps 0 n))) r
   unfolding lowerOf
   codings = in-lower (bytes "transfer-encoding") refl
 
@@ -59,12 +58,12 @@ version-other : (d : ℕ) → (d ≡ 1 → ⊥) → sameBytes (versionText d) (b
 unfolding sameBytes
 version-other d h = rw (ne-eqb (48 + d) 49 (λ e. h (omega arith)))
 
-module _ (fs : List Field) {head : List ℕ} {count start len : ℕ} (f : FoundIn head (valuesOf (bytes "host") fs) count start len) (d : ℕ) where
-  pub host-one : d ≡ 1 → eqb count 1 ≡ hostRight (versionText d) fs
+module _ (fs : List Field) {head : List ℕ} {r : Found} (f : FoundIn head (valuesOf (bytes "host") fs) r) (d : ℕ) where
+  pub host-one : d ≡ 1 → eqb (r .count) 1 ≡ hostRight (versionText d) fs
   unfolding hostRight
   host-one e = rw (version-one d e) (ap (λ (n : ℕ). eqb n 1) (f .count-is))
 
-  pub host-few : (d ≡ 1 → ⊥) → leb count 1 ≡ hostRight (versionText d) fs
+  pub host-few : (d ≡ 1 → ⊥) → leb (r .count) 1 ≡ hostRight (versionText d) fs
   unfolding hostRight
   host-few h = rw (version-other d h) (ap (λ (n : ℕ). leb n 1) (f .count-is))
 
@@ -74,25 +73,25 @@ capped-given : (o : Option ℕ) → cappedOutcome (given o 17) ≡ given (capped
 capped-given none = refl
 capped-given (some n) = refl
 
-module _ {head : List ℕ} {count start len : ℕ} where
-  pub states-none : (vs : List (List ℕ)) → FoundIn head vs count start len → count ≡ 0 → cappedOutcome (statedBy vs) ≡ gives 0
+module _ {head : List ℕ} {r : Found} where
+  pub states-none : (vs : List (List ℕ)) → FoundIn head vs r → r .count ≡ 0 → cappedOutcome (statedBy vs) ≡ gives 0
   states-none [] f z = refl
   states-none (v ∷ vs) f z = absurd (omega (arith, f .count-is))
 
-  pub states-two : (vs : List (List ℕ)) → FoundIn head vs count start len → 1 < count → cappedOutcome (statedBy vs) ≡ refused 17
+  pub states-two : (vs : List (List ℕ)) → FoundIn head vs r → 1 < r .count → cappedOutcome (statedBy vs) ≡ refused 17
   states-two [] f h = absurd (omega (arith, f .count-is))
   states-two (v ∷ []) f h = absurd (omega (arith, f .count-is))
   states-two (v ∷ (w ∷ vs)) f h = refl
 
   pub states-one :
-      (vs : List (List ℕ)) → FoundIn head vs count start len → (count ≡ 0 → ⊥) → count ≤ 1
-      → cappedOutcome (statedBy vs) ≡ given (capped (numberOf (take len (drop start head)))) 17
+      (vs : List (List ℕ)) → FoundIn head vs r → (r .count ≡ 0 → ⊥) → r .count ≤ 1
+      → cappedOutcome (statedBy vs) ≡ given (capped (numberOf (take (r .len) (drop (r .start) head)))) 17
   states-one [] f z h = absurd (z (f .count-is))
   states-one (v ∷ (w ∷ vs)) f z h = absurd (omega (arith, f .count-is))
   states-one (v ∷ []) f z h =
-      let p : ltb 0 count ≡ true = lt-ltb 0 count (omega arith) in
-      let e : some v ≡ some (take len (drop start head)) = f .first-is ∙ ap (λ (t : Bool). partIf t head start len) p in
-      let q : v ≡ take len (drop start head) = cc in
+      let p : ltb 0 (r .count) ≡ true = lt-ltb 0 (r .count) (omega arith) in
+      let e : some v ≡ some (take (r .len) (drop (r .start) head)) = f .first-is ∙ ap (λ (t : Bool). partIf t head (r .start) (r .len)) p in
+      let q : v ≡ take (r .len) (drop (r .start) head) = cc in
       capped-given (numberOf v) ∙ ap (λ (s : List ℕ). given (capped (numberOf s)) 17) q
 
 -- The whole chain.
@@ -107,44 +106,42 @@ chain true (gives n) false e = refl
 chain true (refused n) t e = refl
 chain false o t e = refl
 
-module _ (head version : List ℕ) (fields : List Field) where
+module _ (version head ps : List ℕ) (n : ℕ) where
   abbrev fs : List Field
-  fs = lowered fields
+  fs = lowered (fieldsAt head ps 0 n)
 
   abbrev stated : Outcome ℕ
   stated = cappedOutcome (statedBy (valuesOf (bytes "content-length") fs))
 
+  abbrev coded : Bool
+  coded = eqb (length (valuesOf (bytes "transfer-encoding") fs)) 0
+
   rules-are :
       cappedOutcome (rulesOf version fs)
-      ≡ need (hostRight version fs) 16
-      (then stated (λ n. need (leb (length (valuesOf (bytes "content-type") fs)) 1) 17 (need (eqb (length (valuesOf (bytes "transfer-encoding") fs)) 0) 18 (gives n))))
+      ≡ need (hostRight version fs) 16 (then stated (λ m. need (leb (length (valuesOf (bytes "content-type") fs)) 1) 17 (need coded 18 (gives m))))
   unfolding rulesOf contentOf
-  rules-are =
-      chain (hostRight version fs) (statedBy (valuesOf (bytes "content-length") fs)) (leb (length (valuesOf (bytes "content-type") fs)) 1)
-      (eqb (length (valuesOf (bytes "transfer-encoding") fs)) 0)
+  rules-are = chain (hostRight version fs) (statedBy (valuesOf (bytes "content-length") fs)) (leb (length (valuesOf (bytes "content-type") fs)) 1) coded
 
-  pub bad-host : hostRight version fs ≡ false → RulesRead head version fields (Refused 16)
-  bad-host h = record { answer = sym (rules-are ∙ rw h); content-type = tt }
+  pub bad-host : hostRight version fs ≡ false → refused 16 ≡ judgedOf version head ps n
+  bad-host h = sym (rw (rules-are, h))
 
   module _ (host : hostRight version fs ≡ true) where
-    pub unstated : (k : ℕ) → stated ≡ refused k → RulesRead head version fields (Refused k)
-    unstated k e = record { answer = sym (rules-are ∙ rw (host, e)); content-type = tt }
+    pub unstated : (k : ℕ) → stated ≡ refused k → refused k ≡ judgedOf version head ps n
+    unstated k e = sym (rw (rules-are, host, e))
 
-    module _ (n : ℕ) (said : stated ≡ gives n) {count start len : ℕ} (t : FoundIn head (valuesOf (bytes "content-type") fs) count start len) where
-      pub two-types : 1 < count → RulesRead head version fields (Refused 17)
-      two-types h = record { answer = sym (rules-are ∙ rw (host, said, lt-leb (length (valuesOf (bytes "content-type") fs)) 1 (omega (arith, t .count-is)))); content-type = tt }
+    module _ (m : ℕ) (said : stated ≡ gives m) {type : Found} (t : FoundIn head (valuesOf (bytes "content-type") fs) type) where
+      pub two-types : 1 < type .count → refused 17 ≡ judgedOf version head ps n
+      two-types h = sym (rw (rules-are, host, said, lt-leb (length (valuesOf (bytes "content-type") fs)) 1 (omega (arith, t .count-is))))
 
-      module _ (one : count ≤ 1) {count′ start′ len′ : ℕ} (c : FoundIn head (valuesOf (bytes "transfer-encoding") fs) count′ start′ len′) where
-        pub is-coded : 0 < count′ → RulesRead head version fields (Refused 18)
+      module _ (one : type .count ≤ 1) {coding : Found} (c : FoundIn head (valuesOf (bytes "transfer-encoding") fs) coding) where
+        one-type : leb (length (valuesOf (bytes "content-type") fs)) 1 ≡ true
+        one-type = le-leb (length (valuesOf (bytes "content-type") fs)) 1 (omega (arith, t .count-is))
+
+        pub is-coded : 0 < coding .count → refused 18 ≡ judgedOf version head ps n
         is-coded h =
-            record {
-              answer = sym (rules-are ∙ rw (host, said, le-leb (length (valuesOf (bytes "content-type") fs)) 1 (omega (arith, t .count-is)), ne-eqb (length (valuesOf (bytes "transfer-encoding") fs)) 0 (λ z. omega (arith, c .count-is))));
-              content-type = tt;
-            }
+            sym (rw (rules-are, host, said, one-type, ne-eqb (length (valuesOf (bytes "transfer-encoding") fs)) 0 (λ z. omega (arith, c .count-is))))
 
-        pub passes : count′ ≤ 0 → RulesRead head version fields (Body n (ltb 0 count) start len)
-        passes h =
-            record {
-              answer = sym (rules-are ∙ rw (host, said, le-leb (length (valuesOf (bytes "content-type") fs)) 1 (omega (arith, t .count-is)), eq-eqb (length (valuesOf (bytes "transfer-encoding") fs)) 0 (omega (arith, c .count-is))));
-              content-type = (t .first-is, t .inside);
-            }
+        pub passes : coding .count ≤ 0 → type ≡ foundOf (bytes "content-type") head ps n → gives (judged m type) ≡ judgedOf version head ps n
+        passes h e =
+            ap (λ (f : Found). gives (judged m f)) e
+            ∙ sym (rw (rules-are, host, said, one-type, eq-eqb (length (valuesOf (bytes "transfer-encoding") fs)) 0 (omega (arith, c .count-is))))

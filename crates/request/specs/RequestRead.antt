@@ -1,20 +1,25 @@
 -- For the code that reads a request's head: what its answers say.
 -- Assumes nothing.
-use Prim.Native.Nat.{ℕ, min, _+_, _≤_}
+use Prim.Native.Nat.{ℕ, min, _+_, _-_, _≤_}
 use mathlib.Core.Path.{_≡_}
+use mathlib.Core.Bool.{Bool, cond}
 use mathlib.Core.List.{List}
-use lib.ListN.{length, take, drop}
+use mathlib.Core.Option.{Option, none, some}
+use lib.Dec.{ltb}
+use lib.ListN.{length, take, drop, getD}
 use Rattle.octets.specs.Text.{bytes}
 use Rattle.octets.specs.Outcome.{Outcome, refused, gives, then}
 use Rattle.octets.specs.Kinds.{isName}
 use Rattle.octets.specs.Decimal.{cap}
+use Rattle.octets.specs.Copy.{over}
 use Rattle.http.specs.Lines.{linesOf, lineRun}
 use Rattle.http.specs.RequestLine.{FirstLine, requestLineOf, versionText}
+use Rattle.http.specs.Fields.{Field, fieldsOf, placesOf, fieldsAt, AllInside}
+use Rattle.targets.specs.Escape.{decoded}
 use Rattle.targets.specs.Target.{pathOf, queryOf, targetOf}
-use Rattle.http.specs.Fields.{Field, fieldsOf, fieldsAt, AllInside}
 use Rattle.request.specs.Named.{lowered, valuesOf, firstOf}
 use Rattle.request.specs.Request.{Request, rulesOf, requestOf}
-use Rattle.request.specs.Rules.{partIf, cappedOutcome}
+use Rattle.request.specs.Rules.{foundOf, cappedOutcome}
 use Rattle.request.specs.declared.read.LinePlaces.{LinePlaces}
 use Rattle.request.specs.declared.read.Line.{Line}
 use Rattle.request.specs.declared.read.Line.the-variants.{At as LineAt, Refused as LineRefused}
@@ -24,29 +29,7 @@ use Rattle.request.specs.declared.read.Rest.the-variants.{At as FieldsAt
 use Rattle.request.specs.declared.read.Reading.{Reading}
 use Rattle.request.specs.declared.read.Reading.the-variants.{Request as ReadRequest, Refused}
 
--- The request line.
-
--- the target, the line and the decoded path, where they are placed in a head, and in the buffer for the path
-abbrev pub targetIn : List ℕ → LinePlaces → List ℕ
-targetIn head l = take (l .len) (drop (l .target) head)
-
-abbrev pub lineIn : List ℕ → LinePlaces → FirstLine
-lineIn head l = record { method = take (l .method) head; target = targetIn head l; version = versionText (l .minor) }
-
-abbrev pub pathIn : List ℕ → LinePlaces → List ℕ
-pathIn path l = take (l .decoded) path
-
--- what else is known of the places
-pub record LineKnown (head path : List ℕ) (l : LinePlaces) : Type 0 where
-  pub line-end : l .end ≡ lineRun head
-  pub method-inside : l .method ≤ length head
-  pub target-inside : l .target + l .len ≤ length head
-  pub minor-is : l .minor ≤ 1
-  pub path-length : l .path ≡ length (pathOf (targetIn head l))
-  pub path-inside : l .path ≤ l .len
-  pub query-is : queryOf (targetIn head l) ≡ drop (l .path + 1) (targetIn head l)
-  pub decoded-inside : l .decoded ≤ length path
-  pub decoded-short : l .decoded ≤ 4096
+-- THE REQUEST LINE
 
 -- a request line and the decoded path of its target: 12; 13; 14
 pub record Start : Type 0 where
@@ -59,30 +42,43 @@ startOf head =
     then (targetOf (first .target)) (λ target.
     gives (record { first = first; path = target .path })))
 
-abbrev pub startOutcome : List ℕ → List ℕ → Line → Outcome Start
-startOutcome head path (LineAt l) = gives (record { first = lineIn head l; path = pathIn path l })
-startOutcome head path (LineRefused n) = refused n
+-- the second digit of a version, which is its eighth byte; 48 is the digit 0
+abbrev pub minorOf : List ℕ → ℕ
+minorOf version = getD version 7 0 - 48
 
-abbrev pub LineIs : List ℕ → List ℕ → Line → Type 0
-LineIs head path (LineAt l) = LineKnown head path l
-LineIs head path (LineRefused n) = Unit {0}
+-- where the parts stand in a head: the line ends at the first CR LF, the method is its first bytes, and the target starts one after the
+-- method's space
+abbrev pub linePlaced : List ℕ → Start → LinePlaces
+linePlaced head s =
+    record {
+      end = lineRun head;
+      method = length (s .first .method);
+      target = length (s .first .method) + 1;
+      len = length (s .first .target);
+      minor = minorOf (s .first .version);
+      path = length (pathOf (s .first .target));
+      decoded = length (s .path);
+    }
 
--- path is the buffer as the code left it
-pub record LineRead (head path : List ℕ) (r : Line) : Type 0 where
-  pub answer : startOutcome head path r ≡ startOf head
-  pub known : LineIs head path r
+-- the target that stands there
+abbrev pub targetIn : List ℕ → LinePlaces → List ℕ
+targetIn head l = take (l .len) (drop (l .target) head)
 
--- The fields.
+-- what the code's answer says
+abbrev pub lineOutcome : Line → Outcome LinePlaces
+lineOutcome (LineAt l) = gives l
+lineOutcome (LineRefused n) = refused n
 
-abbrev pub fieldsIn : List ℕ → List ℕ → FieldPlaces → List Field
-fieldsIn head places f = fieldsAt head places 0 (f .count)
+-- the buffer before and after: the decoded path is written to its front, and else it is as it was; after a refusal it may be any
+abbrev pub LineWritten : List ℕ → List ℕ → List ℕ → Line → Type 0
+LineWritten head before after (LineAt l) = after ≡ over before 0 (decoded (pathOf (targetIn head l)))
+LineWritten head before after (LineRefused n) = Unit {0}
 
--- what else is known of the fields
-pub record FieldsKnown (head places : List ℕ) (f : FieldPlaces) : Type 0 where
-  pub few : f .count ≤ 64
-  pub inside : AllInside head places (f .count)
-  pub type-is : firstOf (valuesOf (bytes "content-type") (lowered (fieldsIn head places f))) ≡ partIf (f .typed) head (f .start) (f .len)
-  pub type-inside : f .start + f .len ≤ length head
+pub record LineRead (head before after : List ℕ) (r : Line) : Type 0 where
+  pub answer : lineOutcome r ≡ then (startOf head) (λ s. gives (linePlaced head s))
+  pub buffer : LineWritten head before after r
+
+-- THE FIELDS
 
 -- fields, and the body length that they state, with 1,048,577 for all above 1,048,576: 15; 16; 17; 18
 pub record Stating : Type 0 where
@@ -95,38 +91,90 @@ statingOf head version =
     then (cappedOutcome (rulesOf version (lowered fields))) (λ n.
     gives (record { fields = fields; bodyLength = n })))
 
-abbrev pub statingOutcome : List ℕ → List ℕ → Rest → Outcome Stating
-statingOutcome head places (FieldsAt f) = gives (record { fields = fieldsIn head places f; bodyLength = f .body })
-statingOutcome head places (RestRefused n) = refused n
+-- how many they are, and where the first Content-Type's value stands in a head, by the numbers of its field lines; 0 and 0 where there is none
+abbrev pub fieldsPlaced : List ℕ → Stating → FieldPlaces
+fieldsPlaced head g =
+    let type = foundOf (bytes "content-type") head (placesOf head) (length (g .fields)) in
+    record { count = length (g .fields); body = g .bodyLength; typed = ltb 0 (type .count); start = type .start; len = type .len }
 
-abbrev pub FieldsAre : List ℕ → List ℕ → Rest → Type 0
-FieldsAre head places (FieldsAt f) = FieldsKnown head places f
-FieldsAre head places (RestRefused n) = Unit {0}
+-- what the code's answer says
+abbrev pub restOutcome : Rest → Outcome FieldPlaces
+restOutcome (FieldsAt f) = gives f
+restOutcome (RestRefused n) = refused n
 
--- places is the list as the code left it
-pub record FieldsRead (head version places : List ℕ) (r : Rest) : Type 0 where
-  pub answer : statingOutcome head places r ≡ statingOf head version
-  pub known : FieldsAre head places r
+-- the list before and after: four numbers for each field are stored at its front, and else it is as it was; after a refusal it may be any
+abbrev pub FieldsStored : List ℕ → List ℕ → List ℕ → Rest → Type 0
+FieldsStored head before after (FieldsAt f) = after ≡ over before 0 (placesOf head)
+FieldsStored head before after (RestRefused n) = Unit {0}
 
--- The request.
+pub record FieldsRead (head version before after : List ℕ) (r : Rest) : Type 0 where
+  pub answer : restOutcome r ≡ then (statingOf head version) (λ g. gives (fieldsPlaced head g))
+  pub numbers : FieldsStored head before after r
+
+-- THE REQUEST
 
 -- a request, with 1,048,577 for all body lengths above 1,048,576
 abbrev pub cappedRequest : Request → Request
 cappedRequest q = record { first = q .first; path = q .path; fields = q .fields; bodyLength = min (q .bodyLength) cap }
 
+-- where its parts stand in its head
+pub record Placed : Type 0 where
+  pub line : LinePlaces
+  pub fields : FieldPlaces
+
+abbrev pub placedIn : List ℕ → Request → Placed
+placedIn head q =
+    record {
+      line = linePlaced head (record { first = q .first; path = q .path });
+      fields = fieldsPlaced head (record { fields = q .fields; bodyLength = q .bodyLength });
+    }
+
+-- what the code's answer says
+abbrev pub readingOutcome : Reading → Outcome Placed
+readingOutcome (ReadRequest l f) = gives (record { line = l; fields = f })
+readingOutcome (Refused n) = refused n
+
+-- the list and the buffer before and after, as above
+abbrev pub RequestStored : (head places places′ path path′ : List ℕ) → Reading → Type 0
+RequestStored head places places′ path path′ (ReadRequest l f) =
+    (places′ ≡ over places 0 (placesOf head)) × (path′ ≡ over path 0 (decoded (pathOf (targetIn head l))))
+RequestStored head places places′ path path′ (Refused n) = Unit {0}
+
+pub record RequestRead (head places places′ path path′ : List ℕ) (r : Reading) : Type 0 where
+  pub answer : readingOutcome r ≡ then (requestOf head) (λ q. gives (placedIn head (cappedRequest q)))
+  pub stored : RequestStored head places places′ path path′ r
+
+-- WHAT STANDS AT THE PLACES
+
+-- the line, the decoded path and the fields, by a head, the list of its fields' numbers and the buffer for its path
+abbrev pub lineIn : List ℕ → LinePlaces → FirstLine
+lineIn head l = record { method = take (l .method) head; target = targetIn head l; version = versionText (l .minor) }
+
+abbrev pub pathIn : List ℕ → LinePlaces → List ℕ
+pathIn path l = take (l .decoded) path
+
+abbrev pub fieldsIn : List ℕ → List ℕ → FieldPlaces → List Field
+fieldsIn head places f = fieldsAt head places 0 (f .count)
+
 abbrev pub requestIn : List ℕ → List ℕ → List ℕ → LinePlaces → FieldPlaces → Request
 requestIn head places path l f =
     record { first = lineIn head l; path = pathIn path l; fields = fieldsIn head places f; bodyLength = f .body }
 
-abbrev pub requestOutcome : List ℕ → List ℕ → List ℕ → Reading → Outcome Request
-requestOutcome head places path (ReadRequest l f) = gives (requestIn head places path l f)
-requestOutcome head places path (Refused n) = refused n
+-- the part of a head that is told by a start and a length, where there is one
+abbrev pub partIf : Bool → List ℕ → ℕ → ℕ → Option (List ℕ)
+partIf there head start len = cond there (some (take len (drop start head))) none
 
-abbrev pub RequestKnown : List ℕ → List ℕ → List ℕ → Reading → Type 0
-RequestKnown head places path (ReadRequest l f) = LineKnown head path l × FieldsKnown head places f
-RequestKnown head places path (Refused n) = Unit {0}
+-- what code that goes by the places must know of them
+pub record LineKnown (head path : List ℕ) (l : LinePlaces) : Type 0 where
+  pub method-inside : l .method ≤ length head
+  pub target-inside : l .target + l .len ≤ length head
+  pub minor-is : l .minor ≤ 1
+  pub path-inside : l .path ≤ l .len
+  pub query-is : queryOf (targetIn head l) ≡ drop (l .path + 1) (targetIn head l)
+  pub decoded-inside : l .decoded ≤ length path
 
--- the answer r, and the list and the buffer as the code left them, are those of the request with the head
-pub record RequestRead (head places path : List ℕ) (r : Reading) : Type 0 where
-  pub answer : requestOutcome head places path r ≡ then (requestOf head) (λ q. gives (cappedRequest q))
-  pub known : RequestKnown head places path r
+pub record FieldsKnown (head places : List ℕ) (f : FieldPlaces) : Type 0 where
+  pub few : f .count ≤ 64
+  pub inside : AllInside head places (f .count)
+  pub type-is : firstOf (valuesOf (bytes "content-type") (lowered (fieldsIn head places f))) ≡ partIf (f .typed) head (f .start) (f .len)
+  pub type-inside : f .start + f .len ≤ length head

@@ -1,32 +1,38 @@
--- For the code of the rules over all fields: what its answers say.
+-- For the code of the rules over all fields: what its answers say, by the numbers of the fields in a lent list.
 -- Assumes nothing.
-use Prim.Native.Nat.{ℕ, min, _+_, _≤_}
-use mathlib.Core.Path.{_≡_}
+use Prim.Native.Nat.{ℕ, zero, suc, min, _+_, _*_}
 use mathlib.Core.Bool.{Bool, cond}
 use mathlib.Core.List.{List}
-use mathlib.Core.Option.{Option, none, some}
-use lib.Dec.{ltb}
-use lib.ListN.{length, take, drop}
+use lib.Dec.{eqb, ltb}
+use lib.ListN.{getD}
 use Rattle.octets.specs.Text.{bytes}
 use Rattle.octets.specs.Outcome.{Outcome, refused, gives, then}
+use Rattle.octets.specs.Compare.{sameLetters}
 use Rattle.octets.specs.Decimal.{cap}
-use Rattle.http.specs.Fields.{Field}
-use Rattle.request.specs.Named.{lowered, valuesOf, firstOf}
+use Rattle.http.specs.Fields.{fieldAt, fieldsAt}
+use Rattle.request.specs.Named.{lowered}
 use Rattle.request.specs.Request.{rulesOf}
+use Rattle.request.specs.declared.rules.Found.{Found}
 use Rattle.request.specs.declared.rules.Stated.{Stated}
 use Rattle.request.specs.declared.rules.Stated.the-variants.{Length, Refused as StatedRefused}
 use Rattle.request.specs.declared.rules.Rules.{Rules}
 use Rattle.request.specs.declared.rules.Rules.the-variants.{Body, Refused}
 
--- the part of a head that is told by a start and a length, where there is one
-abbrev pub partIf : Bool → List ℕ → ℕ → ℕ → Option (List ℕ)
-partIf there head start len = cond there (some (take len (drop start head))) none
+-- what was found of a name before the field with number k, and that field, where it has the name too: the first one's value is kept, whose start
+-- and length are the field's third and fourth number
+abbrev pub withField : (name head ps : List ℕ) → ℕ → Found → Found
+withField name head ps k seen =
+    cond (sameLetters (fieldAt head ps k .name) name)
+    (cond (eqb (seen .count) 0)
+    (record { count = 1; start = getD ps (4 * k + 2) 0; len = getD ps (4 * k + 3) 0 })
+    (record { count = seen .count + 1; start = seen .start; len = seen .len }))
+    seen
 
--- of some values: how many they are, and where the first of them stands in the head
-pub record FoundIn (head : List ℕ) (values : List (List ℕ)) (count start len : ℕ) : Type 0 where
-  pub count-is : count ≡ length values
-  pub first-is : firstOf values ≡ partIf (ltb 0 count) head start len
-  pub inside : start + len ≤ length head
+-- those of the first n fields that have the name, letter case aside: how many they are, and where the value of the first of them stands; 0 and 0
+-- where there is none
+unfoldable pub foundOf : (name head ps : List ℕ) → ℕ → Found
+foundOf name head ps zero = record { count = 0; start = 0; len = 0 }
+foundOf name head ps (suc k) = withField name head ps k (foundOf name head ps k)
 
 -- a body length, with 1,048,577 for all above 1,048,576
 abbrev pub cappedOutcome : Outcome ℕ → Outcome ℕ
@@ -36,17 +42,22 @@ abbrev pub statedOutcome : Stated → Outcome ℕ
 statedOutcome (Length n) = gives n
 statedOutcome (StatedRefused n) = refused n
 
-abbrev pub rulesOutcome : Rules → Outcome ℕ
-rulesOutcome (Body n there start len) = gives n
+-- the stated body length, whether there is a Content-Type, and where its value stands
+pub record Judged : Type 0 where
+  pub body : ℕ
+  pub typed : Bool
+  pub start : ℕ
+  pub len : ℕ
+
+abbrev pub rulesOutcome : Rules → Outcome Judged
+rulesOutcome (Body n there start len) = gives (record { body = n; typed = there; start = start; len = len })
 rulesOutcome (Refused n) = refused n
 
--- where the answer places the Content-Type's value
-abbrev pub TypeRead : List ℕ → List Field → Rules → Type 0
-TypeRead head fields (Body n there start len) =
-    (firstOf (valuesOf (bytes "content-type") (lowered fields)) ≡ partIf there head start len) × (start + len ≤ length head)
-TypeRead head fields (Refused n) = Unit {0}
+abbrev pub judged : ℕ → Found → Judged
+judged n type = record { body = n; typed = ltb 0 (type .count); start = type .start; len = type .len }
 
--- the answer r is that of the rules over the fields, for a request of the version
-pub record RulesRead (head version : List ℕ) (fields : List Field) (r : Rules) : Type 0 where
-  pub answer : rulesOutcome r ≡ cappedOutcome (rulesOf version (lowered fields))
-  pub content-type : TypeRead head fields r
+-- 16; 17; 18: of the first n fields, for a request of the version
+abbrev pub judgedOf : (version head ps : List ℕ) → ℕ → Outcome Judged
+judgedOf version head ps n =
+    then (cappedOutcome (rulesOf version (lowered (fieldsAt head ps 0 n)))) (λ body.
+    gives (judged body (foundOf (bytes "content-type") head ps n)))

@@ -2,10 +2,11 @@
 ghost use mathlib.Core.Path.{_≡_};
 ghost use Prim.Native.Nat.{min, _≤_};
 ghost use lib.ListN.{length};
+ghost use Rattle.octets.specs.Outcome.{refusalOf};
 ghost use Rattle.octets.specs.KindTable.{table};
 ghost use Rattle.http.specs.Lines.{lineRun};
 ghost use Rattle.http.specs.RequestLine.{versionText};
-ghost use Rattle.request.specs.RequestRead.{LineRead, FieldsRead, RequestRead};
+ghost use Rattle.request.specs.RequestRead.{lineOutcome, LineRead, restOutcome, FieldsRead, readingOutcome, RequestRead};
 use crate::rules::Rules;
 use crate::rules::check_rules;
 use http::fields::Fields;
@@ -37,10 +38,22 @@ pub enum Line {
     Refused(u8),
 }
 
+impl Line {
+    // The number of the refusal.
+    fn number(self) -> u8
+        ensures { λ r. ⌜ r ≡ refusalOf (lineOutcome self) ⌝ }
+    {
+        match self {
+            Line::At(_) => 0,
+            Line::Refused(n) => n,
+        }
+    }
+}
+
 // The request line at the start of a head, and its target. The decoded path is written to the front of the buffer.
 fn read_line(kinds: &[u8; 256], head: &[u8], path: &mut [u8]) -> Line
     requires { ⌜ (now kinds ≡ table) × (min (length (now head)) 4096 ≤ length (now path)) ⌝ }
-    ensures { λ r. ⌜ LineRead (now (head .entry)) (now (path .exit)) r ⌝ }
+    ensures { λ r. ⌜ LineRead (now (head .entry)) (now (path .entry)) (now (path .exit)) r ⌝ }
 {
     let end = line_end(head, 0);
     let l = request_line(kinds, &head[..end]);
@@ -51,10 +64,7 @@ fn read_line(kinds: &[u8; 256], head: &[u8], path: &mut [u8]) -> Line
         minor,
     } = l
     else {
-        let RequestLine::Refused(k) = l else {
-            return Line::Refused(0);
-        };
-        return Line::Refused(k);
+        return Line::Refused(l.number());
     };
     let t = target(&head[start..start + target_len], path);
     let TargetPlace::Path {
@@ -62,10 +72,7 @@ fn read_line(kinds: &[u8; 256], head: &[u8], path: &mut [u8]) -> Line
         decoded_len,
     } = t
     else {
-        let TargetPlace::Refused(k) = t else {
-            return Line::Refused(0);
-        };
-        return Line::Refused(k);
+        return Line::Refused(t.number());
     };
     Line::At(LinePlaces {
         end,
@@ -95,17 +102,26 @@ pub enum Rest {
     Refused(u8),
 }
 
+impl Rest {
+    // The number of the refusal.
+    fn number(self) -> u8
+        ensures { λ r. ⌜ r ≡ refusalOf (restOutcome self) ⌝ }
+    {
+        match self {
+            Rest::At(_) => 0,
+            Rest::Refused(n) => n,
+        }
+    }
+}
+
 // The fields of a head whose first line ends at from, in a request of the version 1.0 or 1.1.
 fn read_fields(kinds: &[u8; 256], head: &[u8], from: usize, minor: u8, places: &mut [u64]) -> Rest
     requires { ⌜ (now kinds ≡ table) × (from ≡ lineRun (now head)) × (256 ≤ length (now places)) ⌝ }
-    ensures { λ r. ⌜ FieldsRead (now (head .entry)) (versionText minor) (now (places .exit)) r ⌝ }
+    ensures { λ r. ⌜ FieldsRead (now (head .entry)) (versionText minor) (now (places .entry)) (now (places .exit)) r ⌝ }
 {
     let f = field_lines(kinds, head, from, places);
     let Fields::Count(count) = f else {
-        let Fields::Refused(k) = f else {
-            return Rest::Refused(0);
-        };
-        return Rest::Refused(k);
+        return Rest::Refused(f.number());
     };
     let r = check_rules(head, places, count, minor);
     let Rules::Body {
@@ -115,10 +131,7 @@ fn read_fields(kinds: &[u8; 256], head: &[u8], from: usize, minor: u8, places: &
         type_len,
     } = r
     else {
-        let Rules::Refused(k) = r else {
-            return Rest::Refused(0);
-        };
-        return Rest::Refused(k);
+        return Rest::Refused(r.number());
     };
     Rest::At(FieldPlaces {
         count,
@@ -137,25 +150,31 @@ pub enum Reading {
     Refused(u8),
 }
 
+impl Reading {
+    // The number of the refusal.
+    pub fn number(self) -> u8
+        ensures { λ r. ⌜ r ≡ refusalOf (readingOutcome self) ⌝ }
+    {
+        match self {
+            Reading::Request { line: _, fields: _ } => 0,
+            Reading::Refused(n) => n,
+        }
+    }
+}
+
 // Reads a request's head, which is given without its CR LF CR LF. The decoded path is written to the front of path, and four numbers for
 // each field to places: the start and length of its name and of its value in head.
 pub fn read_request(kinds: &[u8; 256], head: &[u8], places: &mut [u64], path: &mut [u8]) -> Reading
     requires { ⌜ (now kinds ≡ table) × (256 ≤ length (now places)) × (min (length (now head)) 4096 ≤ length (now path)) ⌝ }
-    ensures { λ r. ⌜ RequestRead (now (head .entry)) (now (places .exit)) (now (path .exit)) r ⌝ }
+    ensures { λ r. ⌜ RequestRead (now (head .entry)) (now (places .entry)) (now (places .exit)) (now (path .entry)) (now (path .exit)) r ⌝ }
 {
     let l = read_line(kinds, head, path);
     let Line::At(line) = l else {
-        let Line::Refused(k) = l else {
-            return Reading::Refused(0);
-        };
-        return Reading::Refused(k);
+        return Reading::Refused(l.number());
     };
     let f = read_fields(kinds, head, line.end, line.minor, places);
     let Rest::At(fields) = f else {
-        let Rest::Refused(k) = f else {
-            return Reading::Refused(0);
-        };
-        return Reading::Refused(k);
+        return Reading::Refused(f.number());
     };
     Reading::Request { line, fields }
 }

@@ -1,15 +1,14 @@
 // The rules over all fields of a request, whose places are stored.
 ghost use mathlib.Core.Path.{_≡_};
-ghost use mathlib.Core.List.{List, [], _∷_, _++_, map};
-ghost use Prim.Native.Nat.{ℕ, _+_, _*_, _≤_};
+ghost use Prim.Native.Nat.{_+_, _*_, _≤_};
 ghost use lib.ListN.{length};
 ghost use Rattle.octets.specs.Text.{bytes};
-ghost use Rattle.octets.specs.Compare.{lowerOf};
+ghost use Rattle.octets.specs.Outcome.{refusalOf};
 ghost use Rattle.http.specs.RequestLine.{versionText};
-ghost use Rattle.http.specs.Fields.{Inside, AllInside, fieldAt, fieldsAt};
+ghost use Rattle.http.specs.Fields.{Inside, AllInside, fieldsAt};
 ghost use Rattle.request.specs.Named.{lowered, valuesOf};
 ghost use Rattle.request.specs.Request.{hostRight, statedBy};
-ghost use Rattle.request.specs.Rules.{FoundIn, cappedOutcome, statedOutcome, RulesRead};
+ghost use Rattle.request.specs.Rules.{withField, foundOf, cappedOutcome, statedOutcome, rulesOutcome, judgedOf};
 use crate::stored::field_name;
 use octets::compare::same_letters;
 use octets::decimal;
@@ -27,7 +26,7 @@ pub struct Found {
 // What was found of a name, and the field with the number k, if it has the name too.
 fn with_field(head: &[u8], places: &[u64], k: usize, name: &[u8], seen: Found) -> Found
     requires { ⌜ (4 * k + 4 ≤ length (now places)) × (seen .count ≤ k) × Inside (now head) (now places) k ⌝ }
-    ensures { λ r. ⌜ ((vs : List (List ℕ)) → FoundIn (now (head .entry)) vs (seen .count) (seen .start) (seen .len) → FoundIn (now (head .entry)) (vs ++ valuesOf (map lowerOf (now (name .entry))) (lowered (fieldAt (now (head .entry)) (now (places .entry)) k ∷ []))) (r .count) (r .start) (r .len)) ⌝ }
+    ensures { λ r. ⌜ r ≡ withField (now (name .entry)) (now (head .entry)) (now (places .entry)) k seen ⌝ }
 {
     if !same_letters(field_name(head, places, k), name) {
         return seen;
@@ -49,7 +48,7 @@ fn with_field(head: &[u8], places: &[u64], k: usize, name: &[u8], seen: Found) -
 // Those of n fields that have the name, letter case aside.
 pub fn named(head: &[u8], places: &[u64], n: usize, name: &[u8]) -> Found
     requires { ⌜ (4 * n ≤ length (now places)) × (n ≤ 64) × AllInside (now head) (now places) n ⌝ }
-    ensures { λ r. ⌜ FoundIn (now (head .entry)) (valuesOf (map lowerOf (now (name .entry))) (lowered (fieldsAt (now (head .entry)) (now (places .entry)) 0 n))) (r .count) (r .start) (r .len) ⌝ }
+    ensures { λ r. ⌜ r ≡ foundOf (now (name .entry)) (now (head .entry)) (now (places .entry)) n ⌝ }
 {
     let mut seen = Found {
         count: 0,
@@ -82,6 +81,18 @@ pub enum Stated {
     Refused(u8),
 }
 
+impl Stated {
+    // The number of the refusal.
+    fn number(self) -> u8
+        ensures { λ r. ⌜ r ≡ refusalOf (statedOutcome self) ⌝ }
+    {
+        match self {
+            Stated::Length(_) => 0,
+            Stated::Refused(n) => n,
+        }
+    }
+}
+
 // The body length that the Content-Length fields state.
 fn content_length(head: &[u8], places: &[u64], n: usize) -> Stated
     requires { ⌜ (4 * n ≤ length (now places)) × (n ≤ 64) × AllInside (now head) (now places) n ⌝ }
@@ -98,6 +109,7 @@ fn content_length(head: &[u8], places: &[u64], n: usize) -> Stated
     let end = start + lengths.len;
     let v = decimal::read(&head[start..end]);
     let Number::Value(m) = v else {
+        // 17: "Content-Length or Content-Type rule"; the length must be one or more digits.
         return Stated::Refused(17);
     };
     Stated::Length(m)
@@ -114,20 +126,34 @@ pub enum Rules {
     Refused(u8),
 }
 
+impl Rules {
+    // The number of the refusal.
+    pub fn number(self) -> u8
+        ensures { λ r. ⌜ r ≡ refusalOf (rulesOutcome self) ⌝ }
+    {
+        match self {
+            Rules::Body {
+                len: _,
+                type_there: _,
+                type_start: _,
+                type_len: _,
+            } => 0,
+            Rules::Refused(n) => n,
+        }
+    }
+}
+
 // Judges n fields of a request of the version 1.0 or 1.1.
 pub fn check_rules(head: &[u8], places: &[u64], n: usize, minor: u8) -> Rules
     requires { ⌜ (4 * n ≤ length (now places)) × (n ≤ 64) × AllInside (now head) (now places) n ⌝ }
-    ensures { λ r. ⌜ RulesRead (now (head .entry)) (versionText minor) (fieldsAt (now (head .entry)) (now (places .entry)) 0 n) r ⌝ }
+    ensures { λ r. ⌜ rulesOutcome r ≡ judgedOf (versionText minor) (now (head .entry)) (now (places .entry)) n ⌝ }
 {
     if !host_right(head, places, n, minor) {
         return Rules::Refused(16);
     }
     let l = content_length(head, places, n);
     let Stated::Length(len) = l else {
-        let Stated::Refused(k) = l else {
-            return Rules::Refused(0);
-        };
-        return Rules::Refused(k);
+        return Rules::Refused(l.number());
     };
     let types = named(head, places, n, b"content-type");
     if 1 < types.count {

@@ -19,7 +19,7 @@ use Rattle.octets.proofs.Cases.{upper-lower, lower-eqb}
 use Rattle.octets.proofs.Copies.{first-then, over-nil}
 use Rattle.headers.specs.Block.{Header, printed}
 use Rattle.http.specs.Fields.{Field, fieldAt, fieldsAt}
-use Rattle.http.proofs.Places.{fields-next, fields-end}
+use Rattle.http.proofs.Claims.{fields-in-turn}
 use Rattle.request.specs.Named.{lowered}
 use Rattle.variables.specs.Fields.{notPassed, passed, separator, addedBy, joined, grouped, groupedOf}
 use Rattle.variables.specs.Variables.{variableByte, httpVariable}
@@ -109,7 +109,7 @@ seen-end x head ps j h =
 pub added-next :
     (head ps x : List ℕ) (n j : ℕ) → j < n → addedBy (lowFrom head ps n j) x ≡ addedAt head ps x j ++ addedBy (lowFrom head ps n (j + 1)) x
 unfolding addedBy
-added-next head ps x n j h = ap (λ (fs : List Field). addedBy (lowered fs) x) (fields-next head ps n j h) ∙ by (sameBytes (lowName head ps j) x)
+added-next head ps x n j h = ap (λ (fs : List Field). addedBy (lowered fs) x) (fields-in-turn .next head ps n j h) ∙ by (sameBytes (lowName head ps j) x)
   where
     by :
         (t : Bool)
@@ -120,7 +120,7 @@ added-next head ps x n j h = ap (λ (fs : List Field). addedBy (lowered fs) x) (
 
 pub added-end : (head ps x : List ℕ) (n j : ℕ) → n ≤ j → addedBy (lowFrom head ps n j) x ≡ []
 unfolding addedBy
-added-end head ps x n j h = ap (λ (fs : List Field). addedBy (lowered fs) x) (fields-end head ps n j h)
+added-end head ps x n j h = ap (λ (fs : List Field). addedBy (lowered fs) x) (fields-in-turn .end head ps n j h)
 
 -- Names that are not passed count for nothing.
 
@@ -210,7 +210,7 @@ variables-start head ps n = ap (λ (m : ℕ). printed (map httpVariable (grouped
 pub variables-end : (head ps : List ℕ) (n k : ℕ) → n ≤ k → variablesFrom head ps n k ≡ []
 unfolding passed grouped printed
 variables-end head ps n k h =
-    ap (λ (fs : List Field). printed (map httpVariable (grouped (namesBefore head ps k) (passed (lowered fs))))) (fields-end head ps n k h)
+    ap (λ (fs : List Field). printed (map httpVariable (grouped (namesBefore head ps k) (passed (lowered fs))))) (fields-in-turn .end head ps n k h)
 
 names-more : (head ps : List ℕ) (k : ℕ) → namesBefore head ps (k + 1) ≡ lowName head ps k ∷ namesBefore head ps k
 unfolding namesBefore
@@ -220,7 +220,7 @@ pub variables-next :
     (head ps : List ℕ) (n k : ℕ) → k < n
     → variablesFrom head ps n k ≡ ifThere (makes head ps k) (variableFrom head ps n k) ++ variablesFrom head ps n (k + 1)
 variables-next head ps n k h =
-    ap (λ (fs : List Field). printed (map httpVariable (grouped (namesBefore head ps k) (passed (lowered fs))))) (fields-next head ps n k h)
+    ap (λ (fs : List Field). printed (map httpVariable (grouped (namesBefore head ps k) (passed (lowered fs))))) (fields-in-turn .next head ps n k h)
     ∙ ap (λ (fs : List Field). printed (map httpVariable fs)) (group-one f later (namesBefore head ps k))
     ∙ by (makes head ps k)
     ∙ ap (λ (ns : List (List ℕ)). ifThere (makes head ps k) (variableFrom head ps n k) ++ printed (map httpVariable (grouped ns (passed later)))) (sym (names-more head ps k))

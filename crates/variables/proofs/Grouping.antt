@@ -14,9 +14,8 @@ use Rattle.octets.proofs.Compares.{same-true, same-refl}
 use Rattle.http.specs.Fields.{Field}
 use Rattle.request.specs.Named.{lowered, valuesOf, firstOf}
 use Rattle.variables.specs.Fields.{notPassed, passed, separator, addedBy, joined, grouped, groupedOf}
-use Rattle.variables.proofs.Proper.{isLowerName, ProperField, Optionally, absent, there}
+use Rattle.variables.specs.Claims.{isLowerName, ProperField, fieldNames, Optionally, absent, there}
 use Rattle.variables.proofs.NameBytes.{lower-byte}
-use Rattle.variables.proofs.Names.{fieldNames}
 
 -- Names.
 

@@ -1,10 +1,11 @@
-pub mod Proper
 pub mod NameBytes
 pub mod Variables
 pub mod Names
 pub mod Grouping
+pub mod Meanings
 pub mod Puts
 pub mod FixedVariables
 pub mod FieldVariables
 pub mod Repeats
 pub mod Blocks
+pub mod Claims

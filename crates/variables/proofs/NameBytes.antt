@@ -15,7 +15,7 @@ use Rattle.octets.proofs.Bools.{and-left}
 use Rattle.octets.proofs.Alls.{no-nul, all-map, all-append}
 use Rattle.octets.proofs.ByteRules.{atNames, carried}
 use Rattle.variables.specs.Variables.{variableByte, httpName}
-use Rattle.variables.proofs.Proper.{isLowerName}
+use Rattle.variables.specs.Claims.{isLowerName}
 
 abbrev pub Lower : List ℕ → Type 0
 Lower n = All (λ b. isLowerName b ≡ true) n

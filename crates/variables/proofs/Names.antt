@@ -19,12 +19,9 @@ use Rattle.lent.specs.Settings.{Auth, Settings}
 use Rattle.lent.specs.Mounts.{Route}
 use Rattle.variables.specs.Meaning.{Meaning}
 use Rattle.variables.specs.Variables.{variableByte, httpName, httpVariable, fixed, variables}
-use Rattle.variables.proofs.Proper.{isLowerName, ProperField}
+use Rattle.variables.specs.Claims.{isLowerName, ProperField, fieldNames}
 use Rattle.variables.proofs.NameBytes.{Lower, variable-byte-once}
 use Rattle.variables.proofs.Variables.{authed, typed}
-
-abbrev pub fieldNames : List Field → List (List ℕ)
-fieldNames fs = map (λ (f : Field). f .name) fs
 
 -- HTTP_ names are equal where the fields' names are
 

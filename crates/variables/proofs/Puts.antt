@@ -9,6 +9,7 @@ use lib.ListN.{length, take, length-append}
 use Rattle.octets.specs.Copy.{Wrote}
 use Rattle.octets.proofs.Copies.{before, and-then, length-over, over-nil}
 use Rattle.variables.specs.Put.{PutDone, fits, no-room}
+use Rattle.variables.specs.Claims.{FrontIs}
 use Rattle.variables.specs.declared.put.Put.{Put}
 use Rattle.variables.specs.declared.put.Put.the-variants.{At, Full}
 
@@ -55,11 +56,8 @@ module _ {d : List ℕ} {at : ℕ} {w d₁ : List ℕ} where
 -- what was written at a buffer's front
 
 module _ {d w d₁ : List ℕ} where
-  pub put-front : {n : ℕ} → PutDone d 0 w d₁ (At n) → take n d₁ ≡ w
-  put-front (fits h p) = wrote-front (omega arith) p
-
-  pub put-small : {n : ℕ} → PutDone d 0 w d₁ (At n) → length w ≤ length d
-  put-small (fits h p) = omega arith
+  pub put-front : {n : ℕ} → PutDone d 0 w d₁ (At n) → FrontIs d w d₁ n
+  put-front (fits h p) = record { bytes = wrote-front (omega arith) p; inside = wrote-inside (omega arith) p; room = omega arith }
 
   pub put-large : PutDone d 0 w d₁ Full → length d < length w
   put-large (no-room h l) = omega arith

@@ -17,13 +17,12 @@ use Rattle.octets.proofs.Decimals.{decimal-digits}
 use Rattle.headers.specs.Block.{Header, Proper}
 use Rattle.headers.specs.Lookup.{valueIn}
 use Rattle.http.specs.Fields.{Field}
-use Rattle.targets.specs.Target.{queryOf}
 use Rattle.lent.specs.Settings.{Auth, Settings}
 use Rattle.lent.specs.Mounts.{Route}
 use Rattle.lent.specs.Claims.{ProperAuth, neither, both, ProperSettings}
 use Rattle.variables.specs.Meaning.{Meaning}
 use Rattle.variables.specs.Variables.{ifPresent, present, authTypeOf, remoteUserOf, httpVariable, fixed, variables}
-use Rattle.variables.proofs.Proper.{isLowerName, ProperField, Optionally, absent, there, ProperMeaning, ProperRoute}
+use Rattle.variables.specs.Claims.{isLowerName, ProperField, Optionally, absent, there, ProperMeaning, ProperRoute}
 use Rattle.variables.proofs.NameBytes.{http-name-once, http-name-bytes}
 
 -- settings and a meaning with other optional parts, to go by cases on these: s is `authed s (s .auth)`
@@ -154,7 +153,7 @@ remote-user : {a : Option Auth} → ProperAuth a → Optionally NoNul (remoteUse
 remote-user neither = absent
 remote-user (both p q) = there q
 
-module _ (s : Settings) (r : Route) (m : Meaning) (ps : ProperSettings s) (pr : ProperRoute r) (pm : ProperMeaning m) (query : NoNul (queryOf (m .target))) where
+module _ (s : Settings) (r : Route) (m : Meaning) (ps : ProperSettings s) (pr : ProperRoute r) (pm : ProperMeaning m) where
   fixed-proper : All Proper (fixed s r m)
   unfolding fixed
   fixed-proper =
@@ -165,7 +164,7 @@ module _ (s : Settings) (r : Route) (m : Meaning) (ps : ProperSettings s) (pr : 
       & if-row "CONTENT_TYPE" _ refl refl (pm .contentType)
       & row refl refl (no-nul _ refl)
       & row refl refl (pr .pathInfo)
-      & row refl refl query
+      & row refl refl (pm .query)
       & row refl refl (ps .remoteAddr)
       & if-row "REMOTE_USER" _ refl refl (remote-user (ps .auth))
       & row refl refl (pm .method)

@@ -1,6 +1,6 @@
 -- The variables of a request as one block, by the places of their values.
 -- Assumes nothing.
-use Prim.Native.Nat.{ℕ, _≤_}
+use Prim.Native.Nat.{ℕ, min, _+_, _≤_}
 use mathlib.Core.List.{List}
 use lib.ListN.{length, take, drop}
 use Rattle.headers.specs.Block.{printed}
@@ -16,6 +16,10 @@ use Rattle.request.specs.declared.read.FieldPlaces.{FieldPlaces}
 -- the route of a decoded path whose first n bytes are the mount's name
 abbrev pub routeAt : List ℕ → ℕ → Route
 routeAt path n = record { scriptName = take n path; pathInfo = drop n path }
+
+-- where a target's query starts in the head: behind the path and its `?`, or at the target's end where there is none
+abbrev pub queryStart : LinePlaces → ℕ
+queryStart l = l .target + min (l .path + 1) (l .len)
 
 -- The head and the body of a request, the list of its fields' places and the buffer with its decoded path; and where the values stand.
 module _ (facts site head places path body : List ℕ) (s : SettingPlaces) (l : LinePlaces) (f : FieldPlaces) (n : ℕ) where

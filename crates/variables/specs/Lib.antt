@@ -5,3 +5,4 @@ pub mod Put
 pub mod FixedBytes
 pub mod FieldVariables
 pub mod Block
+pub mod Claims

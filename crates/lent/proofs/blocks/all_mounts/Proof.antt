@@ -5,10 +5,10 @@ use Prim.{absurd}
 use native.Mathlib.Omega.{arith}
 use lib.ListN.{length}
 use borrow.Author.Needs.{needs}
-use Rattle.lent.proofs.BlockSteps.{Walk, start, Step, step, always-header, no-more, other-first, slash-last, no-pool, is-mount}
+use Rattle.lent.proofs.BlockSteps.{found-at, Walk, start, Step, step, always-header, no-more, other-first, slash-last, no-pool, is-mount}
 use Rattle.lent.proofs.blocks.all_mounts.Statement.{statement}
 use Rattle.lent.proofs.blocks.all_mounts.Tie as tie
-use Rattle.headers.specs.Block.{headerIn, HeaderFound}
+use Rattle.headers.specs.Block.{headerIn, headerOutcome, HeaderFound}
 use Rattle.headers.specs.declared.block.HeaderPlace.the-variants.{At}
 
 abbrev Inv-loop : tie.InvT-loop
@@ -20,8 +20,10 @@ abbrev μ-loop : tie.MeasureT-loop
 -- the header that was found at i
 found :
     (c : tie.After-known-told Inv-loop μ-loop)
-    → HeaderFound (c .before .before .before .before .before .before .before .args .block .now) (c .before .before .before .before .before .loop .i) (At (c .before .h .given .0 .0) (c .before .h .given .0 .1 .0))
-found c = rw (c .before .h .given .1) at (c .before .before .before .header-at .ensures)
+    → HeaderFound (c .before .before .before .before .before .before .before .args .block .now) (c .before .before .before .before .before .loop .i) (headerOutcome (At (c .before .h .given .0 .0) (c .before .h .given .0 .1 .0)))
+found c =
+    let h = c .before .before .before in
+    found-at _ _ _ _ (h .before .loop-test .taken) (h .header-at .ensures) (c .before .h .given .1)
 
 header :
     (c : tie.After-known-told Inv-loop μ-loop)
@@ -43,7 +45,9 @@ enum-told : tie.Need-enum-told Inv-loop μ-loop
 enum-told c = search needs
 
 returns : tie.Need-returns Inv-loop μ-loop
-returns c = absurd (always-header (c .before .before .before .before .loop .inv .1) _ (rw (c .enum-told .given .1) at (c .before .before .header-at .ensures)))
+returns c =
+    let h = c .before .before in
+    absurd (always-header (h .before .before .loop .inv .1) _ (found-at _ _ _ _ (h .before .loop-test .taken) (h .header-at .ensures) (c .enum-told .given .1)))
 
 shared-slice-read-if1 : tie.Need-shared-slice-read-if1 Inv-loop μ-loop
 shared-slice-read-if1 c = search needs

@@ -23,10 +23,10 @@ check-large-requires : tie.Need-check-large-requires
 check-large-requires c κs = search needs
 
 returns : tie.Need-returns
-returns c = (rw (c .before .t .given .1) at (c .before .before .before .before .before .check-by .ensures)) .answer
+returns c = search needs
 
 returns-2 : tie.Need-returns-2
-returns-2 c = search needs
+returns-2 c = (rw (c .before .t .given .1) at (c .before .before .before .before .before .check-by .ensures)) .answer .1
 
 pub check-spec : {M : Type 1} → statement M
 check-spec =

@@ -1,5 +1,7 @@
 -- `lent::check::check_large` meets its contract.
 -- Assumes nothing.
+use Prim.{absurd}
+use Rattle.lent.proofs.CheckSteps.{always-room}
 use borrow.Author.Needs.{needs}
 use Rattle.lent.proofs.check.check_large.Statement.{statement}
 use Rattle.lent.proofs.check.check_large.Tie as tie
@@ -20,10 +22,10 @@ enum-told : tie.Need-enum-told
 enum-told c = search needs
 
 returns : tie.Need-returns
-returns c = (rw (c .before .t .given .1) at (c .before .before .before .before .before .check-by .ensures)) .answer
+returns c = absurd (always-room _ _ _ _ _ (rw (c .enum-told .given .1) at (c .before .before .before .before .check-by .ensures)) (search needs) (search needs))
 
 returns-2 : tie.Need-returns-2
-returns-2 c = (rw (c .enum-told .given .1) at (c .before .before .before .before .check-by .ensures)) .answer (search needs) (search needs)
+returns-2 c = (rw (c .before .t .given .1) at (c .before .before .before .before .before .check-by .ensures)) .answer .1
 
 pub check-large-spec : {M : Type 1} → statement M
 check-large-spec =

@@ -2,7 +2,7 @@
 -- Assumes nothing.
 use mathlib.Core.Path.{_≡_}
 use borrow.Author.Tests.{not-true, not-false}
-use Rattle.headers.specs.Block.{parsed}
+use Rattle.lent.specs.Mounts.{mountsAt}
 use Rattle.lent.specs.Lent.{mountsOf}
 use Rattle.lent.proofs.CheckSteps.{wrong-mounts, wrong-settings, all-lent}
 use borrow.Author.Needs.{needs}
@@ -10,7 +10,7 @@ use Rattle.lent.proofs.check.check_named.Statement.{statement}
 use Rattle.lent.proofs.check.check_named.Tie as tie
 
 -- the mounts, where their test passed
-mounts-good : (c : tie.Else1) → (let b = c .before .before .before .before .before .before .before .args .mounts .now in parsed b ≡ mountsOf b)
+mounts-good : (c : tie.Else1) → (let b = c .before .before .before .before .before .before .before .args .mounts .now in mountsAt b ≡ mountsOf b)
 mounts-good c = rw (not-false (c .before .is-mounts .result) (c .if1 .left)) at (c .before .is-mounts .ensures)
 
 is-mounts-requires : tie.Need-is-mounts-requires

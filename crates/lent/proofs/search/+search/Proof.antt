@@ -1,23 +1,21 @@
 -- `lent::search::search` meets its contract: each try is shorter than the one before.
 -- Assumes nothing.
 use mathlib.Core.Path.{sym, ap, _∙_}
-use Prim.{absurd}
-use Prim.Native.Nat.{ℕ, _<_}
 use native.Mathlib.Nat.{le-of-lt}
-use native.Mathlib.Omega.{arith}
 use lib.ListN.{length, length-take}
 use lib.Seq.{length-take-le}
+use Rattle.lent.proofs.Searches.{front-shorter, looked-up, path-is-mount, no-mount, shorter-path}
+use Rattle.lent.specs.Mounts.{slashPart}
 use borrow.Author.Needs.{needs}
+use native.Mathlib.Omega.{arith}
+use Prim.Native.Nat.{ℕ, _<_}
 use borrow.Fn.Kinds.{In}
 use borrow.Fn.PlainCycle.{Measures, is, falls, and}
 use Rattle.lent.proofs.search.search.Reads as search′
 use Rattle.lent.proofs.search.search.Kinds as search-kinds
 use Rattle.lent.proofs.search.+search.Lts-search as search-lts
-use Rattle.lent.proofs.search.last_slash.Reads as last-slash-reads
-use Rattle.lent.proofs.Searches.{front-shorter, path-is-mount, always-looked, no-mount, shorter-path}
-use Rattle.lent.specs.Mounts.{slashPart}
 use Rattle.headers.proofs.lookup.seek.Reads as seek-reads
-use Rattle.headers.specs.Lookup.{placeOutcome}
+use Rattle.lent.proofs.search.last_slash.Reads as last-slash-reads
 use Rattle.lent.proofs.search.+search.{statement}
 use Rattle.lent.proofs.search.+search.Tie.{close}
 
@@ -50,18 +48,6 @@ search-enum-known-p : (t : ℕ) → search-lts.Need-enum-known-p (
 ) (search-at t) search′.Post
 search-enum-known-p t c = search needs
 
-search-returns : (t : ℕ) → search-lts.Need-returns (
-  seek-reads.Asked,
-  seek-reads.Learnt,
-  last-slash-reads.Asked,
-  last-slash-reads.Learnt,
-  search-below t,
-  search′.Post,
-) (search-at t) search′.Post
-search-returns t c =
-    let s = c .before .before .before .before .before .before in
-    path-is-mount (s .args .mounts .now) (s .args .path .now) (s .pre .1) _ (sym (c .before .before .before .seek .ensures) ∙ ap placeOutcome (c .before .p .given .1))
-
 search-enum-told : (t : ℕ) → search-lts.Need-enum-told (
   seek-reads.Asked,
   seek-reads.Learnt,
@@ -71,28 +57,6 @@ search-enum-told : (t : ℕ) → search-lts.Need-enum-told (
   search′.Post,
 ) (search-at t) search′.Post
 search-enum-told t c = search needs
-
-search-returns-2 : (t : ℕ) → search-lts.Need-returns-2 (
-  seek-reads.Asked,
-  seek-reads.Learnt,
-  last-slash-reads.Asked,
-  last-slash-reads.Learnt,
-  search-below t,
-  search′.Post,
-) (search-at t) search′.Post
-search-returns-2 t c =
-    let s = c .before .before .before .before .before in
-    absurd (always-looked (s .args .mounts .now) (s .args .path .now) (s .pre .1) _ (sym (c .before .before .seek .ensures) ∙ ap placeOutcome (c .enum-told .given .1)))
-
-search-enum-told-2 : (t : ℕ) → search-lts.Need-enum-told-2 (
-  seek-reads.Asked,
-  seek-reads.Learnt,
-  last-slash-reads.Asked,
-  last-slash-reads.Learnt,
-  search-below t,
-  search′.Post,
-) (search-at t) search′.Post
-search-enum-told-2 t c = search needs
 
 search-last-slash-requires : (t : ℕ) → search-lts.Need-last-slash-requires (
   seek-reads.Asked,
@@ -114,7 +78,7 @@ search-enum-known-s : (t : ℕ) → search-lts.Need-enum-known-s (
 ) (search-at t) search′.Post
 search-enum-known-s t c = search needs
 
-search-enum-told-3 : (t : ℕ) → search-lts.Need-enum-told-3 (
+search-enum-told-2 : (t : ℕ) → search-lts.Need-enum-told-2 (
   seek-reads.Asked,
   seek-reads.Learnt,
   last-slash-reads.Asked,
@@ -122,9 +86,9 @@ search-enum-told-3 : (t : ℕ) → search-lts.Need-enum-told-3 (
   search-below t,
   search′.Post,
 ) (search-at t) search′.Post
-search-enum-told-3 t c = search needs
+search-enum-told-2 t c = search needs
 
-search-returns-3 : (t : ℕ) → search-lts.Need-returns-3 (
+search-returns : (t : ℕ) → search-lts.Need-returns (
   seek-reads.Asked,
   seek-reads.Learnt,
   last-slash-reads.Asked,
@@ -132,9 +96,9 @@ search-returns-3 : (t : ℕ) → search-lts.Need-returns-3 (
   search-below t,
   search′.Post,
 ) (search-at t) search′.Post
-search-returns-3 t c =
+search-returns t c =
     let s = c .before .before .before .before .before .before .before .before in
-    no-mount (s .args .mounts .now) (s .args .path .now) (s .pre .1) (sym (c .before .before .before .before .before .seek .ensures) ∙ ap placeOutcome (c .before .before .before .enum-told2 .given .1)) (sym (c .before .before .last-slash .ensures) ∙ ap (slashPart _) (c .enum-told3 .given .1))
+    no-mount (s .args .mounts .now) (s .args .path .now) (s .pre .1) (looked-up _ _ _ _ (c .before .before .before .before .before .seek .ensures) (c .before .before .before .enum-told .given .1)) (sym (c .before .before .last-slash .ensures) ∙ ap (slashPart _) (c .enum-told2 .given .1))
 
 search-slice-aggregate-search : (t : ℕ) → search-lts.Need-slice-aggregate-search (
   seek-reads.Asked,
@@ -146,8 +110,7 @@ search-slice-aggregate-search : (t : ℕ) → search-lts.Need-slice-aggregate-se
 ) (search-at t) search′.Post
 search-slice-aggregate-search t c =
     let s = c .before .before .before .before .before .before .before .before .before .before in
-    let l = c .before .before .before .before in
-    sym (length-take-le _ (s .args .path .now) (le-of-lt (front-shorter (s .args .path .now) _ (sym (l .last-slash .ensures) ∙ ap (slashPart _) (c .before .before .s .given .1)))))
+    sym (length-take-le _ (s .args .path .now) (le-of-lt (front-shorter (s .args .path .now) _ (sym (c .before .before .before .before .last-slash .ensures) ∙ ap (slashPart _) (c .before .before .s .given .1)))))
 
 search-search-requires : (t : ℕ) → search-lts.Need-search-requires (
   seek-reads.Asked,
@@ -159,11 +122,10 @@ search-search-requires : (t : ℕ) → search-lts.Need-search-requires (
 ) (search-at t) search′.Post
 search-search-requires t c κs =
     let s = c .before .before .before .before .before .before .before .before .before .before in
-    let l = c .before .before .before .before in
     let k = c .before .before .s .given .0 .0 in
-    (omega (arith, length-take k (s .args .path .now), front-shorter (s .args .path .now) k (sym (l .last-slash .ensures) ∙ ap (slashPart _) (c .before .before .s .given .1)), s .pre .0), s .pre .1)
+    (omega (arith, length-take k (s .args .path .now), front-shorter (s .args .path .now) k (sym (c .before .before .before .before .last-slash .ensures) ∙ ap (slashPart _) (c .before .before .s .given .1)), s .pre .0), s .pre .1)
 
-search-returns-4 : (t : ℕ) → search-lts.Need-returns-4 (
+search-returns-2 : (t : ℕ) → search-lts.Need-returns-2 (
   seek-reads.Asked,
   seek-reads.Learnt,
   last-slash-reads.Asked,
@@ -171,10 +133,21 @@ search-returns-4 : (t : ℕ) → search-lts.Need-returns-4 (
   search-below t,
   search′.Post,
 ) (search-at t) search′.Post
-search-returns-4 t c =
+search-returns-2 t c =
     let s = c .before .before .before .before .before .before .before .before .before .before .before in
-    let l = c .before .before .before .before .before in
-    shorter-path (s .args .mounts .now) (s .args .path .now) (s .pre .1) (c .before .before .before .s .given .0 .0) (sym (l .before .before .before .seek .ensures) ∙ ap placeOutcome (l .before .enum-told2 .given .1)) (sym (l .last-slash .ensures) ∙ ap (slashPart _) (c .before .before .before .s .given .1)) _ (c .search .ensures)
+    c .search .ensures ∙ shorter-path (s .args .mounts .now) (s .args .path .now) (s .pre .1) _ (looked-up _ _ _ _ (c .before .before .before .before .before .before .before .before .seek .ensures) (c .before .before .before .before .before .before .enum-told .given .1)) (sym (c .before .before .before .before .before .last-slash .ensures) ∙ ap (slashPart _) (c .before .before .before .s .given .1))
+
+search-returns-3 : (t : ℕ) → search-lts.Need-returns-3 (
+  seek-reads.Asked,
+  seek-reads.Learnt,
+  last-slash-reads.Asked,
+  last-slash-reads.Learnt,
+  search-below t,
+  search′.Post,
+) (search-at t) search′.Post
+search-returns-3 t c =
+    let s = c .before .before .before .before .before .before in
+    path-is-mount (s .args .mounts .now) (s .args .path .now) (s .pre .1) _ (looked-up _ _ _ _ (c .before .before .before .seek .ensures) (c .before .p .given .1))
 
 pub +search-spec : {M : Type 1} → statement M
 +search-spec = close μ-search λ t. search-lts.spec (
@@ -189,14 +162,12 @@ pub +search-spec : {M : Type 1} → statement M
     search′.Post
     (search-seek-requires t)
     (search-enum-known-p t)
-    (search-returns t)
     (search-enum-told t)
-    (search-returns-2 t)
-    (search-enum-told-2 t)
     (search-last-slash-requires t)
     (search-enum-known-s t)
-    (search-enum-told-3 t)
-    (search-returns-3 t)
+    (search-enum-told-2 t)
+    (search-returns t)
     (search-slice-aggregate-search t)
     (search-search-requires t)
-    (search-returns-4 t)
+    (search-returns-2 t)
+    (search-returns-3 t)

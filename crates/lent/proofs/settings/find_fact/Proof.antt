@@ -1,11 +1,12 @@
 -- `lent::settings::find_fact` meets its contract.
 -- Assumes nothing.
-use mathlib.Core.Path.{_≡_, sym, ap, _∙_}
+use mathlib.Core.Path.{_≡_}
 use mathlib.Core.Option.{some}
 use Rattle.lent.proofs.BlockSteps.{well-named}
+use Rattle.lent.proofs.Searches.{looked-up}
 use Rattle.lent.proofs.SettingSteps.{no-fact, empty-fact, is-fact}
 use Rattle.octets.specs.Outcome.{gives}
-use Rattle.headers.specs.Lookup.{placeOutcome, lookupOf}
+use Rattle.headers.specs.Lookup.{lookupOf}
 use borrow.Author.Needs.{needs}
 use Rattle.lent.proofs.settings.find_fact.Statement.{statement}
 use Rattle.lent.proofs.settings.find_fact.Tie as tie
@@ -15,7 +16,7 @@ got :
     (c : tie.After-known-told)
     → (let a = c .before .before .before .before .before .before .before .args in
     lookupOf (a .facts .now) (a .name .now) ≡ gives (some (record { start = c .before .p .given .0 .0; len = c .before .p .given .0 .1 .0 })))
-got c = sym (c .before .before .before .seek-by .ensures) ∙ ap placeOutcome (c .before .p .given .1)
+got c = looked-up _ _ _ _ (c .before .before .before .seek-by .ensures) (c .before .p .given .1)
 
 seek-by-requires : tie.Need-seek-by-requires
 seek-by-requires c κs = c .before .before .before .pre
@@ -23,8 +24,11 @@ seek-by-requires c κs = c .before .before .before .pre
 enum-known-p : tie.Need-enum-known-p
 enum-known-p c = search needs
 
+enum-told : tie.Need-enum-told
+enum-told c = search needs
+
 returns : tie.Need-returns
-returns c = no-fact _ (well-named _ _ _ (c .before .before .before .before .before .pre)) _ (c .before .seek-by .result) (c .match .keys2) (c .before .seek-by .ensures)
+returns c = no-fact _ (well-named _ _ _ (c .before .before .before .before .before .before .pre)) _ (looked-up _ _ _ _ (c .before .before .seek-by .ensures) (c .enum-told .given .1))
 
 returns-2 : tie.Need-returns-2
 returns-2 c = empty-fact _ (well-named _ _ _ (c .before .before .before .before .before .before .before .before .pre)) _ _ (got (c .before)) (c .if1 .taken)
@@ -33,4 +37,5 @@ returns-3 : tie.Need-returns-3
 returns-3 c = is-fact _ (well-named _ _ _ (c .before .before .before .before .before .before .before .before .pre)) _ _ (got (c .before)) (c .if1 .left)
 
 pub find-fact-spec : {M : Type 1} → statement M
-find-fact-spec = tie.close (tie.spec seek-by-requires enum-known-p returns returns-2 returns-3)
+find-fact-spec =
+    tie.close (tie.spec seek-by-requires enum-known-p enum-told returns returns-2 returns-3)

@@ -1,11 +1,8 @@
 -- `lent::settings::find_value` meets its contract.
 -- Assumes nothing.
-use mathlib.Core.Path.{sym, ap, _∙_}
-use Prim.{absurd}
 use Rattle.lent.proofs.BlockSteps.{well-named}
-use Rattle.lent.proofs.Searches.{always-looked}
+use Rattle.lent.proofs.Searches.{looked-up}
 use Rattle.lent.proofs.SettingSteps.{in-facts-at, not-in-facts}
-use Rattle.headers.specs.Lookup.{placeOutcome}
 use borrow.Author.Needs.{needs}
 use Rattle.lent.proofs.settings.find_value.Statement.{statement}
 use Rattle.lent.proofs.settings.find_value.Tie as tie
@@ -16,32 +13,24 @@ seek-by-requires c κs = search needs
 enum-known-f : tie.Need-enum-known-f
 enum-known-f c = search needs
 
-filled-requires : tie.Need-filled-requires
-filled-requires c κs = search needs
-
 enum-told : tie.Need-enum-told
 enum-told c = search needs
-
-enum-told-2 : tie.Need-enum-told-2
-enum-told-2 c = search needs
 
 find-site-requires : tie.Need-find-site-requires
 find-site-requires c κs = search needs
 
 returns : tie.Need-returns
 returns c =
-    let s = c .before .before .before .before .before .before .before .before .before .before in
-    in-facts-at _ _ (well-named _ _ _ (s .pre .0)) (well-named _ _ _ (s .pre .1)) _ _ _ (sym (c .before .before .before .before .seek-by .ensures) ∙ ap placeOutcome (c .before .before .f .given .1)) (c .filled .ensures)
+    let s = c .before .before .before .before .before .before .before .before .before in
+    not-in-facts _ _ (well-named _ _ _ (s .pre .0)) (well-named _ _ _ (s .pre .1)) _ _ (looked-up _ _ _ _ (c .before .before .before .seek-by .ensures) (c .before .enum-told .given .1)) (c .find-site .ensures)
+
+filled-requires : tie.Need-filled-requires
+filled-requires c κs = search needs
 
 returns-2 : tie.Need-returns-2
 returns-2 c =
-    let s = c .before .before .before .before .before .before .before .before in
-    absurd (always-looked _ _ (well-named _ _ _ (s .pre .0)) _ (sym (c .before .before .seek-by .ensures) ∙ ap placeOutcome (c .enum-told .given .1)))
-
-returns-3 : tie.Need-returns-3
-returns-3 c =
-    let s = c .before .before .before .before .before .before .before .before .before in
-    not-in-facts _ _ (well-named _ _ _ (s .pre .0)) (well-named _ _ _ (s .pre .1)) _ _ (sym (c .before .before .before .seek-by .ensures) ∙ ap placeOutcome (c .before .enum-told2 .given .1)) (c .find-site .ensures)
+    let s = c .before .before .before .before .before .before .before .before .before .before in
+    in-facts-at _ _ (well-named _ _ _ (s .pre .0)) (well-named _ _ _ (s .pre .1)) _ _ _ (looked-up _ _ _ _ (c .before .before .before .before .seek-by .ensures) (c .before .before .f .given .1)) (c .filled .ensures)
 
 pub find-value-spec : {M : Type 1} → statement M
 find-value-spec =
@@ -49,10 +38,8 @@ find-value-spec =
     (tie.spec
     seek-by-requires
     enum-known-f
-    filled-requires
     enum-told
-    enum-told-2
     find-site-requires
     returns
-    returns-2
-    returns-3)
+    filled-requires
+    returns-2)

@@ -4,29 +4,24 @@ use Prim.Native.Nat.{_+_, _-_, _≤_}
 use Rattle.request.proofs.RequestSteps.{part-room, malformed, target-in, bad-target, line-read-whole}
 use Rattle.request.proofs.read.read_line.Statement.{statement}
 use Rattle.request.proofs.read.read_line.Tie as tie
-use Rattle.http.proofs.LineCuts.{line-le}
-use Rattle.http.specs.RequestLine.{lineOutcome, methodEnd, targetEnd, requestLineOf}
-use Rattle.targets.specs.Target.{TargetRead}
+use Rattle.http.proofs.Claims.{first-line-stands}
+use Rattle.http.specs.RequestLine.{lineOutcome, linePlacesOf}
 use Rattle.http.specs.declared.request_line.RequestLine.the-variants.{Line}
+use Rattle.targets.specs.Target.{TargetRead}
 use Rattle.octets.proofs.Lists.{part}
 use borrow.Author.Needs.{needs}
 use lib.ListN.{length, take, drop, length-take}
-use mathlib.Core.Path.{_≡_, _∙_}
+use mathlib.Core.Path.{_≡_}
 use native.Mathlib.Omega.{arith}
 
 -- the line that was read, where the pattern matched
 got :
     (c : tie.After-known-told)
-    → (let s = take (c .before .before .before .before .before .line-end .result) (c .before .before .before .before .before .before .before .before .args .head .now) in
-    let g = c .before .l .given .0 in
-    let r = Line (g .0) (g .1 .0) (g .1 .1 .0) (g .1 .1 .1 .0) in
-    (lineOutcome s r ≡ requestLineOf s) × (methodEnd r ≤ length s) × (targetEnd r ≤ length s))
+    → (let g = c .before .l .given .0 in lineOutcome (Line (g .0) (g .1 .0) (g .1 .1 .0) (g .1 .1 .1 .0)) ≡ linePlacesOf (take (c .before .before .before .before .before .line-end .result) (c .before .before .before .before .before .before .before .before .args .head .now)))
 got c = rw (c .before .l .given .1) at (c .before .before .before .request-line .ensures)
 
 inside : (c : tie.After-known-told) → (let g = c .before .l .given .0 in g .1 .0 + g .1 .1 .0 ≤ length (c .before .before .before .before .before .before .before .before .args .head .now))
-inside c =
-    let e = got c in
-    target-in _ _ (c .before .before .before .before .before .line-end .ensures) _ _ _ _ (e .0) (e .1) (e .2)
+inside c = target-in _ _ (c .before .before .before .before .before .line-end .ensures) _ _ _ _ (got c)
 
 -- the target that was read
 read :
@@ -42,7 +37,7 @@ line-end-requires : tie.Need-line-end-requires
 line-end-requires c κs = search needs
 
 slice-aggregate-request-line : tie.Need-slice-aggregate-request-line
-slice-aggregate-request-line c = simp length-take (omega (arith, c .before .line-end .ensures, line-le (c .before .before .before .before .args .head .now)))
+slice-aggregate-request-line c = simp length-take (omega (arith, c .before .line-end .ensures, first-line-stands .within (c .before .before .before .before .args .head .now)))
 
 request-line-requires : tie.Need-request-line-requires
 request-line-requires c κs = search needs
@@ -50,20 +45,16 @@ request-line-requires c κs = search needs
 enum-known-l : tie.Need-enum-known-l
 enum-known-l c = search needs
 
-enum-known-l-2 : tie.Need-enum-known-l-2
-enum-known-l-2 c = search needs
-
-enum-known-l-3 : tie.Need-enum-known-l-3
-enum-known-l-3 c = search needs
-
 enum-told : tie.Need-enum-told
 enum-told c = search needs
 
-returns : tie.Need-returns
-returns c = search needs
+number-requires : tie.Need-number-requires
+number-requires c κs = search needs
 
-returns-2 : tie.Need-returns-2
-returns-2 c = malformed _ _ (c .before .before .before .before .before .before .before .before .line-end .ensures) _ _ (rw (c .before .before .before .before .l2 .given .1 ∙ c .before .l3 .given .1) at (c .before .before .before .before .before .before .request-line .ensures .0))
+returns : tie.Need-returns
+returns c =
+    let e = c .before .enum-told .given .1 in
+    rw (c .number .ensures, e) (malformed _ _ (c .before .before .before .before .before .line-end .ensures) _ _ _ (rw e at (c .before .before .before .request-line .ensures)))
 
 add-target : tie.Need-add-target
 add-target c = omega (arith, inside c)
@@ -86,34 +77,25 @@ target-requires c κs =
 enum-known-t : tie.Need-enum-known-t
 enum-known-t c = search needs
 
-enum-known-t-2 : tie.Need-enum-known-t-2
-enum-known-t-2 c = search needs
-
-enum-known-t-3 : tie.Need-enum-known-t-3
-enum-known-t-3 c = search needs
-
 enum-told-2 : tie.Need-enum-told-2
 enum-told-2 c = search needs
+
+number-requires-2 : tie.Need-number-requires-2
+number-requires-2 c κs = search needs
 
 same-length : tie.Need-same-length
 same-length c = search needs
 
-returns-3 : tie.Need-returns-3
-returns-3 c = search needs
+returns-2 : tie.Need-returns-2
+returns-2 c =
+    let e = c .before .enum-told2 .given .1 in
+    rw (c .number2 .ensures, e) (bad-target _ _ (c .before .before .before .before .before .before .before .before .before .before .before .before .before .line-end .ensures) _ _ _ _ (got (c .before .before .before .before .before .before .before .before)) _ _ _ (rw e at (read (c .before .before .before .before .before))))
 
 same-length-2 : tie.Need-same-length-2
 same-length-2 c = search needs
 
-returns-4 : tie.Need-returns-4
-returns-4 c = let e = got (c .before .before .before .before .before .before .before .before .before .before .before) in
-    bad-target _ _ (c .before .before .before .before .before .before .before .before .before .before .before .before .before .before .before .before .line-end .ensures) _ _ _ _ (e .0) (e .1) (e .2) _ _ _ (rw (c .before .before .before .before .t2 .given .1 ∙ c .before .t3 .given .1) at (read (c .before .before .before .before .before .before .before .before)))
-
-same-length-3 : tie.Need-same-length-3
-same-length-3 c = search needs
-
-returns-5 : tie.Need-returns-5
-returns-5 c = let e = got (c .before .before .before .before .before .before .before .before) in
-    line-read-whole _ _ (c .before .before .before .before .before .before .before .before .before .before .before .before .before .line-end .ensures) _ _ _ _ (e .0) (e .1) (e .2) _ _ _ _ (rw (c .before .t .given .1) at (read (c .before .before .before .before .before))) (c .before .before .before .before .before .before .before .before .before .before .before .before .before .before .before .before .pre .1)
+returns-3 : tie.Need-returns-3
+returns-3 c = line-read-whole _ _ (c .before .before .before .before .before .before .before .before .before .before .before .before .before .line-end .ensures) _ _ _ _ (got (c .before .before .before .before .before .before .before .before)) _ _ _ _ (rw (c .before .t .given .1) at (read (c .before .before .before .before .before)))
 
 pub read-line-spec : {M : Type 1} → statement M
 read-line-spec =
@@ -123,23 +105,18 @@ read-line-spec =
     slice-aggregate-request-line
     request-line-requires
     enum-known-l
-    enum-known-l-2
-    enum-known-l-3
     enum-told
+    number-requires
     returns
-    returns-2
     add-target
     sub-target
     part-target-start
     part-target-end
     target-requires
     enum-known-t
-    enum-known-t-2
-    enum-known-t-3
     enum-told-2
+    number-requires-2
     same-length
-    returns-3
+    returns-2
     same-length-2
-    returns-4
-    same-length-3
-    returns-5)
+    returns-3)

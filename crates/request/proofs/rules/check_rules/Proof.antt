@@ -30,7 +30,7 @@ host-right-requires : tie.Need-host-right-requires
 host-right-requires c κs = c .before .before .pre
 
 returns : tie.Need-returns
-returns c = bad-host _ _ _ (sym (c .before .host-right .ensures) ∙ not-true _ (c .if1 .taken))
+returns c = bad-host _ _ _ _ (sym (c .before .host-right .ensures) ∙ not-true _ (c .if1 .taken))
 
 content-length-requires : tie.Need-content-length-requires
 content-length-requires c κs = c .before .before .before .before .pre
@@ -38,20 +38,16 @@ content-length-requires c κs = c .before .before .before .before .pre
 enum-known-l : tie.Need-enum-known-l
 enum-known-l c = search needs
 
-enum-known-l-2 : tie.Need-enum-known-l-2
-enum-known-l-2 c = search needs
-
-enum-known-l-3 : tie.Need-enum-known-l-3
-enum-known-l-3 c = search needs
-
 enum-told : tie.Need-enum-told
 enum-told c = search needs
 
-returns-2 : tie.Need-returns-2
-returns-2 c = search needs
+number-requires : tie.Need-number-requires
+number-requires c κs = search needs
 
-returns-3 : tie.Need-returns-3
-returns-3 c = unstated _ _ _ (host (c .before .before .before .before .before .before .before)) _ (sym (c .before .before .before .before .before .before .content-length .ensures) ∙ ap statedOutcome (c .before .before .before .before .l2 .given .1 ∙ c .before .l3 .given .1))
+returns-2 : tie.Need-returns-2
+returns-2 c =
+    let e = c .before .enum-told .given .1 in
+    rw (c .number .ensures, e) (unstated _ _ _ _ (host (c .before .before .before .before)) _ (sym (c .before .before .before .content-length .ensures) ∙ ap statedOutcome e))
 
 slice-aggregate-named : tie.Need-slice-aggregate-named
 slice-aggregate-named c = search needs
@@ -59,8 +55,8 @@ slice-aggregate-named c = search needs
 named-requires : tie.Need-named-requires
 named-requires c κs = c .before .before .before .before .before .before .before .before .before .pre
 
-returns-4 : tie.Need-returns-4
-returns-4 c = two-types _ _ _ (host (c .before .before .before .before .before .before .before .before)) _ (stated (c .before .before .before .before)) (types _ (c .before .before .named .ensures)) (c .if2 .taken)
+returns-3 : tie.Need-returns-3
+returns-3 c = two-types _ _ _ _ (host (c .before .before .before .before .before .before .before .before)) _ (stated (c .before .before .before .before)) (types _ _ _ (c .before .before .before .before .before .before .before .before .before .before .before .before .pre .2) (c .before .before .named .ensures)) (c .if2 .taken)
 
 slice-aggregate-named-2 : tie.Need-slice-aggregate-named-2
 slice-aggregate-named-2 c = search needs
@@ -68,11 +64,17 @@ slice-aggregate-named-2 c = search needs
 named-requires-2 : tie.Need-named-requires-2
 named-requires-2 c κs = c .before .before .before .before .before .before .before .before .before .before .before .before .before .pre
 
-returns-5 : tie.Need-returns-5
-returns-5 c = is-coded _ _ _ (host (c .before .before .before .before .before .before .before .before .before .before .before .before)) _ (stated (c .before .before .before .before .before .before .before .before)) (types _ (c .before .before .before .before .before .before .named .ensures)) (c .before .before .before .before .if2 .left) (codings _ (c .before .before .named2 .ensures)) (c .if3 .taken)
+returns-4 : tie.Need-returns-4
+returns-4 c =
+    let n = c .before .before .before .before .before .before in
+    let i = c .before .before .before .before .before .before .before .before .before .before .before .before .before .before .before .before .pre .2 in
+    is-coded _ _ _ _ (host (n .before .before .before .before .before .before)) _ (stated (n .before .before)) (types _ _ _ i (n .named .ensures)) (c .before .before .before .before .if2 .left) (codings _ _ _ i (c .before .before .named2 .ensures)) (c .if3 .taken)
 
-returns-6 : tie.Need-returns-6
-returns-6 c = passes _ _ _ (host (c .before .before .before .before .before .before .before .before .before .before .before .before .before)) _ (stated (c .before .before .before .before .before .before .before .before .before)) (types _ (c .before .before .before .before .before .before .before .named .ensures)) (c .before .before .before .before .before .if2 .left) (codings _ (c .before .before .before .named2 .ensures)) (c .before .if3 .left)
+returns-5 : tie.Need-returns-5
+returns-5 c =
+    let n = c .before .before .before .before .before .before .before in
+    let i = c .before .before .before .before .before .before .before .before .before .before .before .before .before .before .before .before .before .pre .2 in
+    passes _ _ _ _ (host (n .before .before .before .before .before .before)) _ (stated (n .before .before)) (types _ _ _ i (n .named .ensures)) (c .before .before .before .before .before .if2 .left) (codings _ _ _ i (c .before .before .before .named2 .ensures)) (c .before .if3 .left) (n .named .ensures)
 
 pub check-rules-spec : {M : Type 1} → statement M
 check-rules-spec =
@@ -82,15 +84,13 @@ check-rules-spec =
     returns
     content-length-requires
     enum-known-l
-    enum-known-l-2
-    enum-known-l-3
     enum-told
+    number-requires
     returns-2
-    returns-3
     slice-aggregate-named
     named-requires
-    returns-4
+    returns-3
     slice-aggregate-named-2
     named-requires-2
-    returns-5
-    returns-6)
+    returns-4
+    returns-5)

@@ -4,7 +4,8 @@ use Rattle.request.proofs.RuleSteps.{lengths, states-none, states-two, 
 use Rattle.request.proofs.rules.content_length.Statement.{statement}
 use Rattle.request.proofs.rules.content_length.Tie as tie
 use Rattle.request.specs.Named.{lowered, valuesOf}
-use Rattle.request.specs.Rules.{FoundIn, cappedOutcome}
+use Rattle.request.specs.Rules.{cappedOutcome}
+use Rattle.request.proofs.NamedFields.{FoundIn}
 use Rattle.request.specs.Request.{statedBy}
 use Rattle.http.specs.Fields.{fieldsAt}
 use Rattle.octets.proofs.Lists.{part}
@@ -19,8 +20,8 @@ use native.Mathlib.Omega.{arith}
 found :
     (c : tie.After-named)
     → (let a = c .before .before .before .before .args in
-    FoundIn (a .head .now) (valuesOf (bytes "content-length") (lowered (fieldsAt (a .head .now) (a .places .now) 0 (a .n)))) (c .named .result .count) (c .named .result .start) (c .named .result .len))
-found c = lengths _ (c .named .ensures)
+    FoundIn (a .head .now) (valuesOf (bytes "content-length") (lowered (fieldsAt (a .head .now) (a .places .now) 0 (a .n)))) (c .named .result))
+found c = lengths _ _ _ (c .before .before .before .before .pre .2) (c .named .ensures)
 
 -- what the one field's value says
 says :

@@ -12,10 +12,10 @@ named-requires : tie.Need-named-requires
 named-requires c κs = c .before .before .before .pre
 
 returns : tie.Need-returns
-returns c = host-one _ (hosts _ (c .before .before .named .ensures)) _ (c .before .if1 .taken)
+returns c = host-one _ (hosts _ _ _ (c .before .before .before .before .before .before .pre .2) (c .before .before .named .ensures)) _ (c .before .if1 .taken)
 
 returns-2 : tie.Need-returns-2
-returns-2 c = host-few _ (hosts _ (c .before .before .named .ensures)) _ (c .before .if1 .left)
+returns-2 c = host-few _ (hosts _ _ _ (c .before .before .before .before .before .before .pre .2) (c .before .before .named .ensures)) _ (c .before .if1 .left)
 
 pub host-right-spec : {M : Type 1} → statement M
 host-right-spec = tie.close (tie.spec slice-aggregate-named named-requires returns returns-2)

@@ -1,13 +1,11 @@
 -- `request::rules::with_field` meets its contract.
 -- Assumes nothing.
-use Rattle.request.proofs.NamedFields.{found-same, found-first, found-more, values-one}
 use Rattle.request.proofs.rules.with_field.Statement.{statement}
 use Rattle.request.proofs.rules.with_field.Tie as tie
 use Rattle.http.specs.Fields.{fieldAt}
 use Rattle.octets.specs.Compare.{sameLetters}
 use borrow.Author.Needs.{needs}
-use borrow.Author.Tests.{not-true, not-false}
-use mathlib.Core.Bool.{true, false}
+use borrow.Author.Tests.{not-true, not-false, eq-eqb, ne-eqb}
 use mathlib.Core.Path.{_≡_, sym, _∙_}
 
 -- whether the field has the name
@@ -15,7 +13,7 @@ has-name :
     (c : tie.After-same-letters)
     → (let a = c .before .before .before .before .before .args in
     sameLetters (fieldAt (a .head .now) (a .places .now) (a .k) .name) (a .name .now) ≡ c .same-letters .result)
-has-name c = sym (c .same-letters .ensures ∙ rw (c .before .field-name .ensures))
+has-name c = sym (c .same-letters .ensures ∙ rw (c .before .field-name .ensures .0))
 
 field-name-requires : tie.Need-field-name-requires
 field-name-requires c κs = search needs
@@ -24,8 +22,7 @@ same-letters-requires : tie.Need-same-letters-requires
 same-letters-requires c κs = search needs
 
 returns : tie.Need-returns
-returns c = let a = c .before .before .before .before .before .before .args in
-    λ vs f. rw (values-one (a .name .now) (fieldAt (a .head .now) (a .places .now) (a .k)) false (has-name (c .before) ∙ not-true _ (c .if1 .taken))) (found-same f)
+returns c = rw (has-name (c .before) ∙ not-true _ (c .if1 .taken))
 
 mul-t9 : tie.Need-mul-t9
 mul-t9 c = search needs
@@ -52,17 +49,13 @@ shared-slice-read-t19 : tie.Need-shared-slice-read-t19
 shared-slice-read-t19 c = search needs
 
 returns-2 : tie.Need-returns-2
-returns-2 c = let s = c .before .before .before .before .before .before .before .before .before .before in
-    let a = s .args in
-    λ vs f. rw (values-one (a .name .now) (fieldAt (a .head .now) (a .places .now) (a .k)) true (has-name (c .before .before .before .before .before) ∙ not-false _ (c .before .before .before .before .if1 .left))) (found-first f (c .before .before .if2 .taken) _ _ (s .pre .2 .value))
+returns-2 c = rw (has-name (c .before .before .before .before .before) ∙ not-false _ (c .before .before .before .before .if1 .left), eq-eqb _ 0 (c .before .before .if2 .taken))
 
 add-t21 : tie.Need-add-t21
 add-t21 c = search needs
 
 returns-3 : tie.Need-returns-3
-returns-3 c = let s = c .before .before .before .before .before .before .before .before .before in
-    let a = s .args in
-    λ vs f. rw (values-one (a .name .now) (fieldAt (a .head .now) (a .places .now) (a .k)) true (has-name (c .before .before .before .before) ∙ not-false _ (c .before .before .before .if1 .left))) (found-more f (c .before .if2 .left) _)
+returns-3 c = rw (has-name (c .before .before .before .before) ∙ not-false _ (c .before .before .before .if1 .left), ne-eqb _ 0 (c .before .if2 .left))
 
 pub with-field-spec : {M : Type 1} → statement M
 with-field-spec =

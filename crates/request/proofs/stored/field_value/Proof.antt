@@ -6,6 +6,8 @@ use Rattle.request.proofs.stored.field_value.Tie as tie
 use Rattle.octets.proofs.Lists.{part}
 use borrow.Author.Needs.{needs}
 use lib.ListN.{getD}
+use mathlib.Core.Path.{refl}
+use native.Mathlib.Omega.{arith}
 
 mul-start : tie.Need-mul-start
 mul-start c = search needs
@@ -46,7 +48,7 @@ part-result-end c = search needs
 returns : tie.Need-returns
 returns c =
     let a = c .before .before .before .args in
-    part (a .head .now) (getD (a .places .now) (4 * a .k + 2) 0) (getD (a .places .now) (4 * a .k + 3) 0)
+    (part (a .head .now) (getD (a .places .now) (4 * a .k + 2) 0) (getD (a .places .now) (4 * a .k + 3) 0), record { memory = refl; offset = omega arith })
 
 pub field-value-spec : {M : Type 1} → statement M
 field-value-spec =

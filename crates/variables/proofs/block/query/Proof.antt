@@ -1,5 +1,8 @@
 -- `variables::block::query` meets its contract.
 -- Assumes nothing.
+use mathlib.Core.Path.{refl}
+use native.Mathlib.Omega.{arith}
+use lib.ListN.{length-take}
 use Rattle.variables.proofs.Blocks.{query-none, query-some}
 use borrow.Author.Needs.{needs}
 use Rattle.variables.proofs.block.query.Statement.{statement}
@@ -23,7 +26,7 @@ part-result-end c = search needs
 returns : tie.Need-returns
 returns c =
     let a = c .before .before .before .before .args .line in
-    query-none (c .before .before .before .before .args .head .now) (a .target) (a .len) (a .path) (c .before .before .before .before .pre .0) (c .before .before .before .before .pre .1) (c .before .before .before .before .pre .2) (c .before .if1 .taken)
+    (query-none (c .before .before .before .before .args .head .now) (a .target) (a .len) (a .path) (c .before .before .before .before .pre .0) (c .before .before .before .before .pre .1) (c .before .before .before .before .pre .2) (c .before .if1 .taken) _ (simp length-take (omega arith)), record { memory = refl; offset = omega arith })
 
 add-result : tie.Need-add-result
 add-result c = search needs
@@ -40,7 +43,7 @@ part-result-end-2 c = search needs
 returns-2 : tie.Need-returns-2
 returns-2 c =
     let a = c .before .before .before .before .args .line in
-    query-some (c .before .before .before .before .args .head .now) (a .target) (a .len) (a .path) (c .before .before .before .before .pre .0) (c .before .before .before .before .pre .1) (c .before .before .before .before .pre .2) (c .before .if1 .left)
+    (query-some (c .before .before .before .before .args .head .now) (a .target) (a .len) (a .path) (c .before .before .before .before .pre .0) (c .before .before .before .before .pre .1) (c .before .before .before .before .pre .2) (c .before .if1 .left), record { memory = refl; offset = omega arith })
 
 pub query-spec : {M : Type 1} → statement M
 query-spec =

@@ -14,7 +14,7 @@ told :
     (c : tie.After-same-letters)
     → (let a = c .before .before .before .before .before .before .args in
     sameBytes (lowName (a .head .now) (a .places .now) (a .j)) (map lowerOf (a .name .now)) ≡ c .same-letters .result)
-told c = sym (c .same-letters .ensures ∙ rw (c .before .field-name .ensures))
+told c = sym (c .same-letters .ensures ∙ rw (c .before .field-name .ensures .0))
 
 field-name-requires : tie.Need-field-name-requires
 field-name-requires c κs = search needs

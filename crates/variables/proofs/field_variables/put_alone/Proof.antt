@@ -16,7 +16,7 @@ first :
     (c : tie.After-known-told)
     → (let a = c .before .before .before .before .before .before .before .before .before .before .before .args in
     PutDone (a .out .now) (a .at) (httpName (lowName (a .head .now) (a .places .now) (a .k)) ++ 0 ∷ []) (c .before .before .before .before .before .put-http-name .last .0) (At (c .before .p .given .0 .0)))
-first c = rw (c .before .p .given .1, c .before .before .before .before .before .before .before .field-name .ensures) at (c .before .before .before .before .before .put-http-name .ensures)
+first c = rw (c .before .p .given .1, c .before .before .before .before .before .before .before .field-name .ensures .0) at (c .before .before .before .before .before .put-http-name .ensures)
 
 field-name-requires : tie.Need-field-name-requires
 field-name-requires c κs = search needs
@@ -36,7 +36,7 @@ same-length c = search needs
 returns : tie.Need-returns
 returns c =
     let a = c .before .before .before .before .before .before .before .before .before .before .args in
-    put-full (fieldAt (a .head .now) (a .places .now) (a .k) .value ++ 0 ∷ []) (rw (c .enum-told .given .1, c .before .before .before .before .before .before .field-name .ensures) at (c .before .before .before .before .put-http-name .ensures))
+    put-full (fieldAt (a .head .now) (a .places .now) (a .k) .value ++ 0 ∷ []) (rw (c .enum-told .given .1, c .before .before .before .before .before .before .field-name .ensures .0) at (c .before .before .before .before .put-http-name .ensures))
 
 field-value-requires : tie.Need-field-value-requires
 field-value-requires c κs = search needs
@@ -48,7 +48,7 @@ same-length-2 : tie.Need-same-length-2
 same-length-2 c = search needs
 
 returns-2 : tie.Need-returns-2
-returns-2 c = put-then (first (c .before .before .before .before .before)) (rw (c .before .before .before .before .field-value .ensures) at (c .before .before .put-ended .ensures))
+returns-2 c = put-then (first (c .before .before .before .before .before)) (rw (c .before .before .before .before .field-value .ensures .0) at (c .before .before .put-ended .ensures))
 
 pub put-alone-spec : {M : Type 1} → statement M
 put-alone-spec =

@@ -16,7 +16,7 @@ first :
     (c : tie.After-known-told)
     → (let a = c .before .before .before .before .before .before .before .before .before .before .before .args in
     PutDone (a .out .now) (a .at) (httpName (lowName (a .head .now) (a .places .now) (a .k)) ++ 0 ∷ []) (c .before .before .before .before .before .put-http-name .last .0) (At (c .before .p .given .0 .0)))
-first c = rw (c .before .p .given .1, c .before .before .before .before .before .before .before .field-name .ensures) at (c .before .before .before .before .before .put-http-name .ensures)
+first c = rw (c .before .p .given .1, c .before .before .before .before .before .before .before .field-name .ensures .0) at (c .before .before .before .before .before .put-http-name .ensures)
 
 field-name-requires : tie.Need-field-name-requires
 field-name-requires c κs =
@@ -38,7 +38,7 @@ same-length c = search needs
 returns : tie.Need-returns
 returns c =
     let a = c .before .before .before .before .before .before .before .before .before .before .args in
-    put-full (valueFrom (a .head .now) (a .places .now) (a .n) (a .k) ++ 0 ∷ []) (rw (c .enum-told .given .1, c .before .before .before .before .before .before .field-name .ensures) at (c .before .before .before .before .put-http-name .ensures))
+    put-full (valueFrom (a .head .now) (a .places .now) (a .n) (a .k) ++ 0 ∷ []) (rw (c .enum-told .given .1, c .before .before .before .before .before .before .field-name .ensures .0) at (c .before .before .before .before .put-http-name .ensures))
 
 put-values-requires : tie.Need-put-values-requires
 put-values-requires c κs =

@@ -47,7 +47,7 @@ same-length-2 : tie.Need-same-length-2
 same-length-2 c = search needs
 
 returns-2 : tie.Need-returns-2
-returns-2 c = put-then (first (c .before .before .before .before .before)) (rw (c .before .before .before .before .field-value .ensures) at (c .before .before .put-piece2 .ensures))
+returns-2 c = put-then (first (c .before .before .before .before .before)) (rw (c .before .before .before .before .field-value .ensures .0) at (c .before .before .put-piece2 .ensures))
 
 pub put-joined-spec : {M : Type 1} → statement M
 put-joined-spec =

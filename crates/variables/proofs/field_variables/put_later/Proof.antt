@@ -28,7 +28,7 @@ added :
     → (let l = c .before .before .before .before .before .before .before .before in
     let a = c .before .before .before .before .before .before .before .before .before .before .before .before .before .args in
     PutDone (l .loop .out) (l .loop .p) (addedAt (a .head .now) (a .places .now) (lowName (a .head .now) (a .places .now) (a .k)) (l .loop .j)) (c .before .before .before .before .before .put-added .last .1 .1 .1 .1 .0) (At (c .before .r .given .0 .0)))
-added c = rw (c .before .r .given .1, c .before .before .before .before .before .before .before .before .before .field-name .ensures) at (c .before .before .before .before .before .put-added .ensures)
+added c = rw (c .before .r .given .1, c .before .before .before .before .before .before .before .before .before .field-name .ensures .0) at (c .before .before .before .before .before .put-added .ensures)
 
 field-name-requires : tie.Need-field-name-requires Inv-loop μ-loop
 field-name-requires c κs =
@@ -59,7 +59,7 @@ same-length c = search needs
 returns : tie.Need-returns Inv-loop μ-loop
 returns c =
     let l = c .before .before .before .before .before .before .before in
-    left-full (l .loop .inv .4) _ _ (added-next _ _ _ _ _ (c .before .before .before .before .before .before .loop-test .taken)) (rw (c .enum-told .given .1, l .before .field-name .ensures) at (c .before .before .before .before .put-added .ensures))
+    left-full (l .loop .inv .4) _ _ (added-next _ _ _ _ _ (c .before .before .before .before .before .before .loop-test .taken)) (rw (c .enum-told .given .1, l .before .field-name .ensures .0) at (c .before .before .before .before .put-added .ensures))
 
 add-j-2 : tie.Need-add-j-2 Inv-loop μ-loop
 add-j-2 c = search needs

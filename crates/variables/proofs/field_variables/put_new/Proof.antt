@@ -18,7 +18,7 @@ told :
     (c : tie.After-not-passed)
     → (let a = c .before .before .before .before .before .args in
     isIn (lowName (a .head .now) (a .places .now) (a .k)) notPassed ≡ c .not-passed .result)
-told c = sym (c .not-passed .ensures ∙ rw (c .before .field-name .ensures))
+told c = sym (c .not-passed .ensures ∙ rw (c .before .field-name .ensures .0))
 
 -- where no name is there twice, all differ
 differ :

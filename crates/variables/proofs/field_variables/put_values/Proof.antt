@@ -18,7 +18,7 @@ first :
     (c : tie.After-known-told)
     → (let a = c .before .before .before .before .before .before .before .before .before .before .before .args in
     PutDone (a .out .now) (a .at) (fieldAt (a .head .now) (a .places .now) (a .k) .value) (c .before .before .before .before .before .put-piece .last .0) (At (c .before .p .given .0 .0)))
-first c = rw (c .before .p .given .1, c .before .before .before .before .before .before .before .field-value .ensures) at (c .before .before .before .before .before .put-piece .ensures)
+first c = rw (c .before .p .given .1, c .before .before .before .before .before .before .before .field-value .ensures .0) at (c .before .before .before .before .before .put-piece .ensures)
 
 second :
     (c : tie.After-known-told2)
@@ -46,7 +46,7 @@ same-length c = search needs
 returns : tie.Need-returns
 returns c =
     let a = c .before .before .before .before .before .before .before .before .before .before .args in
-    put-full (0 ∷ []) (put-full (addedBy (lowFrom (a .head .now) (a .places .now) (a .n) (a .k + 1)) (lowName (a .head .now) (a .places .now) (a .k))) (rw (c .enum-told .given .1, c .before .before .before .before .before .before .field-value .ensures) at (c .before .before .before .before .put-piece .ensures)))
+    put-full (0 ∷ []) (put-full (addedBy (lowFrom (a .head .now) (a .places .now) (a .n) (a .k + 1)) (lowName (a .head .now) (a .places .now) (a .k))) (rw (c .enum-told .given .1, c .before .before .before .before .before .before .field-value .ensures .0) at (c .before .before .before .before .put-piece .ensures)))
 
 put-later-requires : tie.Need-put-later-requires
 put-later-requires c κs =

@@ -23,7 +23,7 @@ seen :
     → (let l = c .before .before .before in
     let a = l .before .before .before .before .args in
     sameBytes (lowName (a .head .now) (a .places .now) (a .k)) (lowName (a .head .now) (a .places .now) (l .loop .j - 1)) ≡ c .same-letters .result)
-seen c = sym (c .same-letters .ensures ∙ rw (c .before .before .before .before .field-name .ensures, c .before .field-name2 .ensures))
+seen c = sym (c .same-letters .ensures ∙ rw (c .before .before .before .before .field-name .ensures .0, c .before .field-name2 .ensures .0))
 
 field-name-requires : tie.Need-field-name-requires Inv-loop μ-loop
 field-name-requires c κs =

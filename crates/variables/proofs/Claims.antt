@@ -1,0 +1,18 @@
+-- Each claim of specs/Claims.antt, proved.
+-- Assumes nothing.
+use Rattle.variables.specs.Claims.{MeaningIsProper, VariablesAreHeaders, VariablesSayMeaning, PutsTold}
+use Rattle.variables.proofs.Variables as Variables
+use Rattle.variables.proofs.Meanings as Meanings
+use Rattle.variables.proofs.Puts as Puts
+
+pub meaning-is-proper : MeaningIsProper
+meaning-is-proper = Meanings.meaning-proper
+
+pub variables-are-headers : VariablesAreHeaders
+variables-are-headers = Meanings.variables-stand
+
+pub variables-say-meaning : VariablesSayMeaning
+variables-say-meaning = Variables.variables-once
+
+pub puts-told : PutsTold
+puts-told = record { fits = Puts.put-front; full = Puts.put-large }

@@ -1,0 +1,93 @@
+-- What is claimed of the variables of a request.
+-- Assumes nothing.
+use Prim.Native.Nat.{ℕ, _≤_, _<_}
+use mathlib.Core.Path.{_≡_}
+use mathlib.Core.Bool.{Bool, true, not, _&&_}
+use mathlib.Core.List.{List, _∷_, map}
+use mathlib.Core.Option.{Option, none, some}
+use lib.ListN.{length, take}
+use Rattle.octets.specs.Text.{bytes}
+use Rattle.octets.specs.Outcome.{gives}
+use Rattle.octets.specs.Kinds.{within, isName}
+use Rattle.octets.specs.Decimal.{decimal}
+use Rattle.octets.specs.Lists.{All, NoNul, different, Different}
+use Rattle.headers.specs.Block.{Header, Proper, names}
+use Rattle.http.specs.Fields.{Field}
+use Rattle.targets.specs.Target.{queryOf}
+use Rattle.lent.specs.Settings.{Settings}
+use Rattle.lent.specs.Mounts.{Route}
+use Rattle.lent.specs.Claims.{ProperSettings}
+use Rattle.request.specs.Request.{Request, requestOf}
+use Rattle.variables.specs.Meaning.{Meaning, meaningOf}
+use Rattle.variables.specs.Variables.{variables}
+use Rattle.variables.specs.Put.{PutDone}
+use Rattle.variables.specs.declared.put.Put.the-variants.{At, Full}
+
+-- What makes routes, fields and meanings fit for a block: no NUL, and names of bytes that a field name has in lower case.
+
+pub record ProperRoute (r : Route) : Type 0 where
+  pub scriptName : NoNul (r .scriptName)
+  pub pathInfo : NoNul (r .pathInfo)
+
+-- a field whose name has bytes of the kind k
+pub record ProperField (k : ℕ → Bool) (f : Field) : Type 0 where
+  pub name-bytes : All (λ b. k b ≡ true) (f .name)
+  pub value-bytes : NoNul (f .value)
+
+-- a byte of a name in lower case
+unfoldable pub isLowerName : ℕ → Bool
+isLowerName b = isName b && not (within 65 90 b)
+
+abbrev pub fieldNames : List Field → List (List ℕ)
+fieldNames fs = map (λ (f : Field). f .name) fs
+
+-- an optional text
+pub data Optionally (P : List ℕ → Type 0) : Option (List ℕ) → Type 0 where
+  absent : Optionally P none
+  there : {v : List ℕ} → P v → Optionally P (some v)
+
+pub record ProperMeaning (m : Meaning) : Type 0 where
+  pub method : NoNul (m .method)
+  pub target : NoNul (m .target)
+  pub query : NoNul (queryOf (m .target))
+  pub version : NoNul (m .version)
+  pub contentType : Optionally NoNul (m .contentType)
+  pub fields : All (ProperField isLowerName) (m .fields)
+  pub differ : different (fieldNames (m .fields)) ≡ true
+  pub few : length (m .fields) ≤ 64
+
+-- so is the meaning of every accepted request, whatever its body: "one HTTP_ variable for each passed field name"
+abbrev pub MeaningIsProper : Type 0
+MeaningIsProper = (head body : List ℕ) (q : Request) → requestOf head ≡ gives q → ProperMeaning (meaningOf (q .first) (q .fields) body)
+
+-- the variables can be the headers of an SCGI request: each is one, no two have the same name, and the first two are "CONTENT_LENGTH (body
+-- length, no leading zero), SCGI `1`"
+pub record VariablesStand (s : Settings) (r : Route) (m : Meaning) : Type 0 where
+  pub proper : All Proper (variables s r m)
+  pub differ : Different (names (variables s r m))
+  pub few : length (variables s r m) ≤ 128
+  pub others : List Header
+  pub first-two :
+      variables s r m
+      ≡ record { name = bytes "CONTENT_LENGTH"; value = decimal (length (m .body)) } ∷ (record { name = bytes "SCGI"; value = bytes "1" } ∷ others)
+
+abbrev pub VariablesAreHeaders : Type 0
+VariablesAreHeaders = (s : Settings) (r : Route) (m : Meaning) → ProperSettings s → ProperRoute r → ProperMeaning m → VariablesStand s r m
+
+-- equal variables and bodies are equal meanings, under equal settings; and equal meanings have equal variables, since these are a function of the
+-- settings, the route and the meaning
+abbrev pub VariablesSayMeaning : Type 0
+VariablesSayMeaning =
+    (s : Settings) (r r′ : Route) (m m′ : Meaning) → ProperMeaning m → ProperMeaning m′ → variables s r m ≡ variables s r′ m′ → m .body ≡ m′ .body
+    → m ≡ m′
+
+-- w was written to the front of the buffer d, up to n
+pub record FrontIs (d w d′ : List ℕ) (n : ℕ) : Type 0 where
+  pub bytes : take n d′ ≡ w
+  pub inside : n ≤ length d′
+  pub room : length w ≤ length d
+
+-- what is written to a buffer's front stands there, or is longer than the buffer
+pub record PutsTold : Type 0 where
+  pub fits : {d w d′ : List ℕ} {n : ℕ} → PutDone d 0 w d′ (At n) → FrontIs d w d′ n
+  pub full : {d w d′ : List ℕ} → PutDone d 0 w d′ Full → length d < length w
