@@ -47,8 +47,7 @@ zero-is-given =
       setting = λ f s n. told heldNumbers (settingOf f s n) (λ e. omega (arith, Headers.numbers-hold .setting f s n 0 e));
       spool = λ s room. told spoolNumbers (gives (requestsOf s room)) (λ e. let z : _≡_ {A = ℕ} 0 1 = cc in omega arith);
       respond = λ s. told answerNumbers (responseOf s) (λ e. false≢true (Response.numbers-hold s 0 e));
-      gateway = λ f s m h start len room.
-          told (forwardNumbers start len) (stepOf f s m h room) (λ e. false≢true (Gateway.numbers-hold f s m h room 0 e));
+      gateway = λ f s m h room. told forwardNumbers (stepOf f s m h room) (λ e. false≢true (Gateway.numbers-hold f s m h room 0 e));
     }
 
 -- p is what the call gives
@@ -71,5 +70,5 @@ refusal-keeps =
       lengths = λ s d d′ answer answer′ r a h.
           kept-by (fitting (spoolGives s (length d)) answer) (gives (requestsOf s (length d) .lengths)) d d′ r (a .answers .number) h (a .stored);
       scgi = λ f s m t out out′ answer answer′ r a h.
-          kept-by (fitting (gatewayGives f s m t (a .start) (a .len) (length out)) answer) (then (stepOf f s m t (length out)) (λ w. gives (w .scgi))) out out′ r (a .answers .number) h (a .output);
+          kept-by (fitting (gatewayGives f s m t (length out)) answer) (then (stepOf f s m t (length out)) (λ w. gives (w .scgi))) out out′ r (a .answers .number) h (a .output);
     }

@@ -1,16 +1,14 @@
 -- Laws of what oy_gateway gives and writes.
 -- Assumes nothing.
-use Prim.Native.Nat.{ℕ, _+_, _≤_, _<_}
-use Prim.{absurd}
-use mathlib.Core.Path.{_≡_, sym, ap, subst, _∙_}
+use Prim.Native.Nat.{ℕ, _≤_, _<_}
+use mathlib.Core.Path.{_≡_, sym, ap, _∙_}
 use mathlib.Core.List.{List, [], _∷_}
-use native.Mathlib.Omega.{arith}
-use lib.ListN.{length, take, drop}
+use lib.ListN.{length}
 use borrow.Author.Tests.{le-leb}
 use Rattle.octets.specs.Outcome.{Outcome, refused, gives}
 use Rattle.lent.specs.Lent.{lentOf}
 use Rattle.gateway.specs.Step.{Forward, forwardOf, stepOf}
-use Rattle.gateway.specs.Stepping.{Answer, answerOf, steppingOutcome, PoolInside, Stepped}
+use Rattle.gateway.specs.Stepping.{Answer, answerOf, steppingOutcome, Stepped}
 use Rattle.gateway.specs.declared.step.Stepping.{Stepping}
 use Rattle.gateway.specs.declared.step.Stepping.the-variants.{Written, Refused}
 use Rattle.gateway.proofs.Claims.{room-is-last}
@@ -18,23 +16,17 @@ use Rattle.capi.specs.Answer.{fitting, returned, Answered, untold}
 use Rattle.capi.specs.Forward.{forwardNumbers, gatewayGives, GatewayAnswered}
 use Rattle.capi.proofs.Answers.{refused-with, Gave, gave-with, refusal, gave, untold-refused, untold-given, untold-all}
 
--- an answer of the step is one of its two
-pub not-both : {k n p l u : ℕ} → Refused k ≡ Written n p l u → ⊥
-not-both e =
-    let z : _≡_ {A = ℕ} 0 1 = cc in
-    omega arith
-
 -- The step's answer tells its numbers.
 
-module _ (facts site mounts http d after : List ℕ) (s : Stepping) (x : Stepped (stepOf facts site mounts http (length d)) mounts d after s) where
+module _ (facts site mounts http d after : List ℕ) (s : Stepping) (x : Stepped (stepOf facts site mounts http (length d)) d after s) where
   abbrev o : Outcome Forward
   o = stepOf facts site mounts http (length d)
 
   refused-by : (k : ℕ) → s ≡ Refused k → o ≡ refused k
-  refused-by k e = refused-with answerOf o k (sym (ap (steppingOutcome mounts) e) ∙ x .answer)
+  refused-by k e = refused-with answerOf o k (sym (ap steppingOutcome e) ∙ x .answer)
 
-  gave-by : (n p l u : ℕ) → s ≡ Written n p l u → Gave answerOf o (record { written = n; pool = take l (drop p mounts); used = u })
-  gave-by n p l u e = gave-with answerOf o (record { written = n; pool = take l (drop p mounts); used = u }) (sym (ap (steppingOutcome mounts) e) ∙ x .answer)
+  gave-by : (n p l u : ℕ) → s ≡ Written n p l u → Gave answerOf o (record { written = n; poolStart = p; poolLength = l; used = u })
+  gave-by n p l u e = gave-with answerOf o (record { written = n; poolStart = p; poolLength = l; used = u }) (sym (ap steppingOutcome e) ∙ x .answer)
 
   -- the number that is due where the numbers have no room
   pub due-refused : (k : ℕ) → s ≡ Refused k → k ≡ returned (untold (forwardOf (lentOf facts site mounts) http))
@@ -52,13 +44,7 @@ module _ (facts site mounts http d after : List ℕ) (s : Stepping) (x : Stepped
   pub step-refused : (answer : List ℕ) (k : ℕ) → s ≡ Refused k → GatewayAnswered facts site mounts http d after answer answer k
   step-refused answer k e =
       let r : o ≡ refused k = refused-by k e in
-      record {
-        start = 0;
-        len = 0;
-        pool = λ f q h. absurd (let z : _≡_ {A = ℕ} 0 1 = cc in omega arith);
-        answers = refusal (forwardNumbers 0 0) answer k r;
-        output = x .output ∙ rw r;
-      }
+      record { answers = refusal forwardNumbers answer k r; output = x .output ∙ rw r }
 
   -- the step wrote, and its numbers are told
   pub step-told :
@@ -66,33 +52,18 @@ module _ (facts site mounts http d after : List ℕ) (s : Stepping) (x : Stepped
       → Answered (gives (n ∷ p ∷ l ∷ u ∷ [])) answer answer′ r → GatewayAnswered facts site mounts http d after answer answer′ r
   step-told answer h n p l u e answer′ r a =
       let g = gave-by n p l u e in
-      let i : p + l ≤ length mounts = subst (PoolInside mounts) e (x .pool) in
-      let c : n ≡ length (g .it .scgi) = ap (λ (t : Answer). t .written) (g .tells) in
-      let v : u ≡ g .it .used = ap (λ (t : Answer). t .used) (g .tells) in
-      let w : take l (drop p mounts) ≡ g .it .pool = ap (λ (t : Answer). t .pool) (g .tells) in
+      let c : n ∷ p ∷ l ∷ u ∷ [] ≡ forwardNumbers (g .it) = ap (λ (t : Answer). t .written ∷ t .poolStart ∷ t .poolLength ∷ t .used ∷ []) (g .tells) in
       record {
-        start = p;
-        len = l;
-        pool = λ f q k. (i, w ∙ ap (λ (t : Forward). t .pool) (same-forward (sym (g .is) ∙ q)));
-        answers = gave (forwardNumbers p l) (g .is) (rw (sym c, sym v) a);
+        answers = gave forwardNumbers (g .is) (rw (sym c) a);
         output = x .output ∙ rw (g .is, le-leb 4 (length answer) h);
       }
-    where
-      same-forward : {f f′ : Forward} → gives f ≡ gives f′ → f ≡ f′
-      same-forward q = cc
 
 -- the answer has no room for the numbers: nothing is changed
 pub no-room :
     (facts site mounts http out answer : List ℕ) → length answer < 4 → (r : ℕ)
     → r ≡ returned (untold (forwardOf (lentOf facts site mounts) http)) → GatewayAnswered facts site mounts http out out answer answer r
 no-room facts site mounts http out answer h r e =
-    let u : fitting (gatewayGives facts site mounts http 0 0 (length out)) answer ≡ refused (returned (untold (forwardOf (lentOf facts site mounts) http))) =
+    let u : fitting (gatewayGives facts site mounts http (length out)) answer ≡ refused (returned (untold (forwardOf (lentOf facts site mounts) http))) =
     rw (room-is-last facts site mounts http (length out))
-    (untold-all (λ f. f .scgi) (forwardNumbers 0 0) (forwardOf (lentOf facts site mounts) http) (length out) answer (λ f. h)) in
-    record {
-      start = 0;
-      len = 0;
-      pool = λ f q k. absurd (let z : 4 < 4 = omega arith in omega arith);
-      answers = record { number = rw u e; list = rw u };
-      output = rw u;
-    }
+    (untold-all (λ f. f .scgi) forwardNumbers (forwardOf (lentOf facts site mounts) http) (length out) answer (λ f. h)) in
+    record { answers = record { number = rw u e; list = rw u }; output = rw u }

@@ -8,10 +8,10 @@ use lib.ListN.{length}
 use borrow.Author.Tests.{le-leb, lt-leb}
 use Rattle.octets.specs.Outcome.{gives}
 use Rattle.octets.specs.Copy.{over}
-use Rattle.scgi.specs.Spool.{endingOf, SpoolDone}
+use Rattle.scgi.specs.Spool.{endingOf, endingRefusal, SpoolDone}
 use Rattle.scgi.specs.declared.spool.Spooled.{Spooled}
 use Rattle.capi.specs.Answer.{Answered}
-use Rattle.capi.specs.Spool.{endingNumber, endingRefusal, SpoolAnswered}
+use Rattle.capi.specs.Spool.{endingNumber, SpoolAnswered}
 
 module _ (bytes d answer : List ℕ) where
   -- an answer that is too short leaves both lists alone

@@ -6,7 +6,7 @@ use mathlib.Core.List.{List, [], _∷_}
 use lib.ListN.{length}
 use Rattle.octets.specs.Outcome.{Outcome, gives, then}
 use Rattle.framing.specs.Spool.{Ending, whole, cut, refusedBy, full, Spool}
-use Rattle.scgi.specs.Spool.{requestsOf}
+use Rattle.scgi.specs.Spool.{endingRefusal, requestsOf}
 use Rattle.scgi.specs.Write.{outputAfter}
 use Rattle.capi.specs.Answer.{fitting, Answered}
 
@@ -16,13 +16,6 @@ endingNumber whole = 0
 endingNumber cut = 1
 endingNumber (refusedBy n) = 2
 endingNumber full = 3
-
--- the N of "refused N", or 0
-abbrev pub endingRefusal : Ending → ℕ
-endingRefusal whole = 0
-endingRefusal cut = 0
-endingRefusal (refusedBy n) = n
-endingRefusal full = 0
 
 -- "how many it stored and the ending"
 abbrev pub spoolNumbers : Spool → List ℕ

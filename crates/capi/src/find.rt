@@ -2,6 +2,7 @@
 ghost use Rattle.capi.specs.Answer.{Answered};
 ghost use Rattle.capi.specs.Find.{findGives};
 use crate::answer::give;
+use headers::lookup::Lookup;
 use headers::lookup::Place;
 use headers::lookup::find;
 
@@ -10,10 +11,12 @@ use headers::lookup::find;
 pub extern "C" fn oy_scgi_find(block: &[u8], name: &[u8], answer: &mut [u64]) -> u64
     ensures { λ r. ⌜ Answered (findGives (now (block .entry)) (now (name .entry))) (now (answer .entry)) (now (answer .exit)) r ⌝ }
 {
-    let p = find(block, name);
-    match p {
-        Place::At { start, len } => give(answer, &[1, start as u64, len as u64]),
-        Place::Absent => give(answer, &[0, 0, 0]),
-        Place::Refused(n) => n as u64,
-    }
+    let l = find(block, name);
+    let Lookup::Found(p) = l else {
+        return l.number() as u64;
+    };
+    let Place::At { start, len } = p else {
+        return give(answer, &[0, 0, 0]);
+    };
+    give(answer, &[1, start as u64, len as u64])
 }

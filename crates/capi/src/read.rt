@@ -19,10 +19,7 @@ pub extern "C" fn oy_scgi_read(bytes: &[u8], answer: &mut [u64]) -> u64
         used,
     } = r
     else {
-        let Reading::Refused(n) = r else {
-            return 0;
-        };
-        return n as u64;
+        return r.number() as u64;
     };
     give(
         answer,

@@ -35,10 +35,7 @@ pub extern "C" fn oy_response(script: &[u8], answer: &mut [u64]) -> u64
         body_len,
     } = r
     else {
-        let Response::Refused(n) = r else {
-            return 0;
-        };
-        return n as u64;
+        return r.number() as u64;
     };
     let a = action_number(action);
     give(

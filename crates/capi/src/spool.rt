@@ -1,32 +1,23 @@
 // Requests that stand end to end.
 ghost use mathlib.Core.Path.{_≡_};
 ghost use Rattle.scgi.specs.Spool.{endingOf};
-ghost use Rattle.capi.specs.Spool.{endingNumber, endingRefusal, SpoolAnswered};
+ghost use Rattle.capi.specs.Spool.{endingNumber, SpoolAnswered};
 use crate::answer::give;
 use scgi::spool::Ending;
+use scgi::spool::Stop;
 use scgi::spool::spool;
 
 // The number of an ending.
 fn ending_number(e: Ending) -> u64
     ensures { λ r. ⌜ r ≡ endingNumber (endingOf e) ⌝ }
 {
-    match e {
-        Ending::Whole => 0,
-        Ending::Cut => 1,
-        Ending::Refused(_) => 2,
-        Ending::Full => 3,
-    }
-}
-
-// The number of the refusal that ends a spool, or 0.
-fn ending_refusal(e: Ending) -> u64
-    ensures { λ r. ⌜ r ≡ endingRefusal (endingOf e) ⌝ }
-{
-    match e {
-        Ending::Whole => 0,
-        Ending::Cut => 0,
-        Ending::Refused(n) => n as u64,
-        Ending::Full => 0,
+    let Ending::Stopped(s) = e else {
+        return 2;
+    };
+    match s {
+        Stop::Whole => 0,
+        Stop::Cut => 1,
+        Stop::Full => 3,
     }
 }
 
@@ -42,6 +33,6 @@ pub extern "C" fn oy_spool(bytes: &[u8], lengths: &mut [u64], answer: &mut [u64]
     let s = spool(bytes, lengths);
     let e = s.ending;
     let kind = ending_number(e);
-    let refusal = ending_refusal(e);
+    let refusal = e.number() as u64;
     give(answer, &[s.count as u64, kind, refusal])
 }

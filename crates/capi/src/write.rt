@@ -34,10 +34,7 @@ pub extern "C" fn oy_scgi_write(
     }
     let w = write(block, body, out);
     let Writing::Bytes(n) = w else {
-        let Writing::Refused(k) = w else {
-            return 0;
-        };
-        return k as u64;
+        return w.number() as u64;
     };
     give(answer, &[n as u64])
 }

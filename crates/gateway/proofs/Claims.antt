@@ -1,6 +1,6 @@
 -- Each claim of specs/Claims.antt, proved. Crates above cite this file and no other of this folder.
 -- Assumes nothing.
-use Rattle.gateway.specs.Claims.{BytesExactlyMeaning, WrittenIsAccepted, PipelinesFrame, PipelinesEqual, PipelineCut, PipelineGoesOn, RoomIsLast, NumbersHold, WorkedCases}
+use Rattle.gateway.specs.Claims.{BytesExactlyMeaning, WrittenIsAccepted, PoolIsValue, PipelinesFrame, PipelinesEqual, PipelineCut, PipelineGoesOn, RoomIsLast, NumbersHold, WorkedCases}
 use Rattle.gateway.proofs.Exactly as Exactly
 use Rattle.gateway.proofs.Pipelines as Pipelines
 use Rattle.gateway.proofs.Links as Links
@@ -12,6 +12,9 @@ bytes-exactly-meaning = Exactly.bytes-exactly-meaning
 
 pub written-is-accepted : WrittenIsAccepted
 written-is-accepted = Exactly.written-is-accepted
+
+pub pool-is-value : PoolIsValue
+pool-is-value = Exactly.pool-is-value
 
 pub pipelines-frame : PipelinesFrame
 pipelines-frame = Pipelines.pipelines-frame

@@ -8,47 +8,17 @@ use lib.Dec.{leb}
 use lib.ListN.{length, take, drop}
 use borrow.Author.Tests.{leb-true}
 use Rattle.octets.specs.Outcome.{Outcome, gives, need}
-use Rattle.octets.specs.Kinds.{isName}
 use Rattle.octets.proofs.Outcomes.{need-gives, given-gives, gives-once, then-gives}
-use Rattle.headers.specs.Block.{Header, printed}
+use Rattle.headers.specs.Block.{printed}
 use Rattle.http.specs.Head.{headOf}
-use Rattle.http.specs.Lines.{linesOf}
-use Rattle.http.specs.RequestLine.{FirstLine, requestLineOf}
-use Rattle.targets.specs.Target.{Target, targetOf}
-use Rattle.http.specs.Fields.{Field, fieldsOf}
 use Rattle.lent.specs.Settings.{Settings}
-use Rattle.lent.specs.Mounts.{Route, mountOf, mountFor, routeOf}
+use Rattle.lent.specs.Mounts.{Mount, Route, mountOf, mountFor, routeOf}
 use Rattle.lent.specs.Lent.{Lent}
-use Rattle.request.specs.Named.{lowered}
 use Rattle.variables.specs.Meaning.{Meaning, meaningOf}
 use Rattle.variables.specs.Variables.{variables}
-use Rattle.gateway.specs.Step.{bytesOf}
 use Rattle.gateway.specs.Claims.{RoomIsLast}
-use Rattle.request.specs.Request.{rulesOf, Request, requestOf}
-use Rattle.gateway.specs.Step.{Body, bodyOf, poolOf, Forward, writtenFor, forwardOf, stepWith}
-
--- of a head
-pub record RequestLinks (head : List ℕ) (q : Request) : Type 0 where
-  pub target : Target
-  pub line-read : requestLineOf (linesOf head .first) ≡ gives (q .first)
-  pub target-read : targetOf (q .first .target) ≡ gives target
-  pub path : q .path ≡ target .path
-  pub fields-read : fieldsOf isName (linesOf head .others) ≡ gives (q .fields)
-
-links-at :
-    (head : List ℕ) (q : Request) (first : FirstLine) (t : Target) (fields : List Field) (n : ℕ) → requestLineOf (linesOf head .first) ≡ gives first
-    → targetOf (first .target) ≡ gives t → fieldsOf isName (linesOf head .others) ≡ gives fields
-    → record { first = first; path = t .path; fields = fields; bodyLength = n } ≡ q → RequestLinks head q
-links-at head q first t fields n a b c z = rw (← z) (record { target = t; line-read = a; target-read = b; path = refl; fields-read = c })
-
-pub request-links : (head : List ℕ) (q : Request) → requestOf head ≡ gives q → RequestLinks head q
-unfolding requestOf
-request-links head q e =
-    let a = then-gives (requestLineOf (linesOf head .first)) _ q e in
-    let b = then-gives (targetOf (a .it .target)) _ q (a .next) in
-    let c = then-gives (fieldsOf isName (linesOf head .others)) _ q (b .next) in
-    let d = then-gives (rulesOf (a .it .version) (lowered (c .it))) _ q (c .next) in
-    links-at head q (a .it) (b .it) (c .it) (d .it) (a .first) (b .first) (c .first) (gives-once _ q (d .next))
+use Rattle.request.specs.Request.{Request, requestOf}
+use Rattle.gateway.specs.Step.{bytesOf, Body, bodyOf, Forward, writtenFor, forwardOf, stepWith}
 
 -- of a body
 pub record BodyLinks (http : List ℕ) (h n : ℕ) (b : Body) : Type 0 where
@@ -64,29 +34,35 @@ body-links http h n b e =
     record { limit = leb-true n 1048576 (c .0); there = leb-true (h + n) (length http) (d .0); is = sym (gives-once _ b (d .1)) }
 
 -- of what is written
-pub record WrittenLinks (s : Settings) (r : Route) (m : Meaning) (used : ℕ) (f : Forward) : Type 0 where
+pub record WrittenLinks (s : Settings) (k : Mount) (r : Route) (m : Meaning) (used : ℕ) (f : Forward) : Type 0 where
   pub limit : length (printed (variables s r m)) ≤ 16384
   pub scgi : f .scgi ≡ bytesOf s r m
+  pub pool : (f .poolStart ≡ k .poolStart) × (f .poolLength ≡ k .poolLength)
   pub used-is : f .used ≡ used
 
-pub written-links : (s : Settings) (r : Route) (m : Meaning) (pool : List ℕ) (used : ℕ) (f : Forward) → writtenFor s r m pool used ≡ gives f → WrittenLinks s r m used f
+pub written-links : (s : Settings) (k : Mount) (r : Route) (m : Meaning) (used : ℕ) (f : Forward) → writtenFor s k r m used ≡ gives f → WrittenLinks s k r m used f
 unfolding writtenFor
-written-links s r m pool used f e =
+written-links s k r m used f e =
     let c = need-gives (leb (length (printed (variables s r m))) 16384) 22 _ f e in
-    let z : record { scgi = bytesOf s r m; pool = pool; used = used } ≡ f = gives-once _ f (c .1) in
-    record { limit = leb-true _ 16384 (c .0); scgi = ap (λ (x : Forward). x .scgi) (sym z); used-is = ap (λ (x : Forward). x .used) (sym z) }
+    let z : record { scgi = bytesOf s r m; poolStart = k .poolStart; poolLength = k .poolLength; used = used } ≡ f = gives-once _ f (c .1) in
+    record {
+      limit = leb-true _ 16384 (c .0);
+      scgi = ap (λ (x : Forward). x .scgi) (sym z);
+      pool = (ap (λ (x : Forward). x .poolStart) (sym z), ap (λ (x : Forward). x .poolLength) (sym z));
+      used-is = ap (λ (x : Forward). x .used) (sym z);
+    }
 
 -- of the chain, where k is what is lent
 pub record Links (k : Lent) (http : List ℕ) (f : Forward) : Type 0 where
   pub h : ℕ
   pub q : Request
-  pub m : Header
+  pub m : Mount
   pub b : Body
   pub head : headOf http ≡ gives h
   pub request : requestOf (take (h - 4) http) ≡ gives q
   pub mount : mountOf (k .mounts) (q .path) ≡ some m
   pub body : bodyOf http h (q .bodyLength) ≡ gives b
-  pub written : WrittenLinks (k .settings) (routeOf m (q .path)) (meaningOf (q .first) (q .fields) (b .body)) (b .used) f
+  pub written : WrittenLinks (k .settings) m (routeOf m (q .path)) (meaningOf (q .first) (q .fields) (b .body)) (b .used) f
 
 pub links : (k : Lent) (http : List ℕ) (f : Forward) → forwardOf (gives k) http ≡ gives f → Links k http f
 unfolding forwardOf
@@ -106,7 +82,7 @@ links k http f e =
       mount = given-gives (mountOf (k .mounts) (q .path)) 19 (g .it) (g .first);
       body = i .first;
       written =
-          written-links (k .settings) (routeOf (g .it) (q .path)) (meaningOf (q .first) (q .fields) (i .it .body)) (poolOf (g .it)) (i .it .used) f (i .next);
+          written-links (k .settings) (g .it) (routeOf (g .it) (q .path)) (meaningOf (q .first) (q .fields) (i .it .body)) (i .it .used) f (i .next);
     }
 
 -- what is lent where a request is accepted

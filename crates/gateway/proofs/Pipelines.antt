@@ -14,7 +14,7 @@ use Rattle.framing.proofs.Keeps.{Keeps, same, keeps-then, keeps-cond, keeps-end
 use Rattle.framing.proofs.Spools.{spools-equal, spool-cut}
 use Rattle.framing.proofs.SpoolSteps.{spool-goes-on}
 use Rattle.http.specs.Head.{headOf}
-use Rattle.http.proofs.Heads.{head-keeps, head-within}
+use Rattle.http.proofs.Claims.{heads-hold}
 use Rattle.lent.specs.Mounts.{mountFor}
 use Rattle.lent.specs.Lent.{Lent, lentOf}
 use Rattle.request.specs.Request.{requestOf}
@@ -23,7 +23,7 @@ use Rattle.gateway.specs.Claims.{PipelinesFrame, PipelinesEqual, Pipelin
 use Rattle.gateway.proofs.Links.{body-links, links, lent-of}
 
 keeps-head : (s t : List ℕ) → Keeps (headOf s) (headOf (s ++ t))
-keeps-head s t = keeps-unless (headOf s) (headOf (s ++ t)) (head-keeps s t)
+keeps-head s t = keeps-unless (headOf s) (headOf (s ++ t)) (heads-hold .keeps s t)
 
 keeps-body : (s t : List ℕ) (h n : ℕ) → Keeps (bodyOf s h n) (bodyOf (s ++ t) h n)
 unfolding bodyOf
@@ -39,7 +39,7 @@ unfolding forwardOf
 after-lent k s t =
     keeps-then (keeps-head s t)
     (λ h e.
-    let w = head-within s h e in
+    let w = heads-hold .within s h e in
     rw (take-append-le (h - 4) s t (omega (arith, w .inside)))
     (keeps-then {o = requestOf (take (h - 4) s)} same
     (λ q d. keeps-then {o = mountFor (k .mounts) (q .path)} same
@@ -56,7 +56,7 @@ within lent s f e =
     let l = links (z .k) s f (rw (z .is) at e) in
     let b = body-links s (l .h) (l .q .bodyLength) (l .b) (l .body) in
     let u : f .used ≡ l .h + l .q .bodyLength = l .written .used-is ∙ ap (λ (x : Body). x .used) (b .is) in
-    let w = head-within s (l .h) (l .head) in
+    let w = heads-hold .within s (l .h) (l .head) in
     (omega (arith, u, w .last), omega (arith, u, b .there))
 
 steady : (lent : Outcome Lent) → Steady (forwardOf lent) (λ f. f .used)

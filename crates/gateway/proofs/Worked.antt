@@ -3,7 +3,7 @@
 use Prim.Native.Nat.{ℕ}
 use mathlib.Core.Path.{_≡_, refl}
 use mathlib.Core.List.{List, [], _∷_, map}
-use Rattle.octets.specs.Text.{bytes, barred}
+use Rattle.octets.specs.Text.{barred}
 use Rattle.octets.specs.Outcome.{refused, gives}
 use Rattle.octets.specs.Kinds.{isDigit, isLetter, isHex, isToken, isName, isTarget, isValue, isBlank}
 use Rattle.octets.specs.Scan.{run, allOf, count}
@@ -24,7 +24,7 @@ use Rattle.targets.specs.Escape.{escapesRight, hexValue, decodedFrom}
 use Rattle.targets.specs.Target.{pathOf, queryOf, rawRight, noDots, segmentsRight, decodedRight, targetOf}
 use Rattle.http.specs.Fields.{fieldOf, eachField}
 use Rattle.lent.specs.Settings.{settingsOf}
-use Rattle.lent.specs.Mounts.{begins, mountOf}
+use Rattle.lent.specs.Mounts.{placed, begins, mountOf}
 use Rattle.lent.specs.Lent.{ends, allMounts, lentOf}
 use Rattle.variables.specs.Fields.{passed, addedBy, grouped}
 use Rattle.request.specs.Named.{valuesOf}
@@ -35,7 +35,7 @@ use Rattle.gateway.specs.Worked.{step, forward, answerTo, Case, cases}
 use Rattle.gateway.specs.Claims.{WorkedCases}
 
 pub worked-cases : WorkedCases
-unfolding cases readOf lengthFrom checkBlock parted paired different isIn sameBytes numberFrom isDigit has stepWith lentOf settingsOf allMounts begins ends mountOf valueIn forwardOf headOf endFrom linesFrom requestOf requestLineOf versionOf isMethod isVersion isToken isLetter isHex isTarget isName isValue isBlank run allOf count kept escapesRight hexValue decodedFrom pathOf queryOf rawRight noDots segmentsRight decodedRight targetOf fieldOf eachField lowerOf rulesOf hostRight contentOf valuesOf
+unfolding cases readOf lengthFrom checkBlock parted paired different isIn sameBytes numberFrom isDigit has stepWith lentOf settingsOf allMounts placed begins ends mountOf valueIn forwardOf headOf endFrom linesFrom requestOf requestLineOf versionOf isMethod isVersion isToken isLetter isHex isTarget isName isValue isBlank run allOf count kept escapesRight hexValue decodedFrom pathOf queryOf rawRight noDots segmentsRight decodedRight targetOf fieldOf eachField lowerOf rulesOf hostRight contentOf valuesOf
 worked-cases = refl
 
 -- 01's example: "Whole output, | for NUL, 272 bytes"
@@ -55,7 +55,7 @@ unfoldable pub further : List Case
 further =
     record {
       asked = step ("GET /jobs/7?x=1 HTTP/1.1" ∷ "Host: q.example" ∷ []) "" 272;
-      answer = forward (gives (record { scgi = exampleOutput; pool = bytes "a"; used = 45 }));
+      answer = forward (gives (record { scgi = exampleOutput; poolStart = 6; poolLength = 1; used = 45 }));
     }
     ∷ record { asked = step ("GET /jobs/7?x=1 HTTP/1.1" ∷ "Host: q.example" ∷ []) "" 271; answer = forward (refused 21) }
     ∷ record {
@@ -77,7 +77,7 @@ further =
           ∷ [])
           "hello!"
           400;
-      answer = forward (gives (record { scgi = joinedOutput; pool = bytes "a"; used = 228 }));
+      answer = forward (gives (record { scgi = joinedOutput; poolStart = 6; poolLength = 1; used = 228 }));
     }
     ∷ record { asked = step ("GET /jobs HTTP/1.1" ∷ "Job_Id: 1" ∷ []) "" 0; answer = forward (refused 15) }
     ∷ record { asked = step ("GET /jobs HTTP/1.1" ∷ []) "" 0; answer = forward (refused 16) }
@@ -95,5 +95,5 @@ further =
     ∷ []
 
 pub further-right : map (λ c. answerTo (c .asked)) further ≡ map (λ c. c .answer) further
-unfolding further sameBytes isIn numberFrom digitsIn isDigit printed parted paired different stepWith lentOf settingsOf allMounts begins ends mountOf valueIn forwardOf writtenFor headOf endFrom linesFrom requestOf requestLineOf versionOf isMethod isVersion isToken isLetter isHex isTarget isName isValue isBlank run allOf count kept escapesRight hexValue decodedFrom pathOf queryOf rawRight noDots segmentsRight decodedRight targetOf fieldOf eachField lowerOf upperOf rulesOf hostRight contentOf valuesOf bodyOf fixed passed addedBy grouped
+unfolding further sameBytes isIn numberFrom digitsIn isDigit printed parted paired different stepWith lentOf settingsOf allMounts placed begins ends mountOf valueIn forwardOf writtenFor headOf endFrom linesFrom requestOf requestLineOf versionOf isMethod isVersion isToken isLetter isHex isTarget isName isValue isBlank run allOf count kept escapesRight hexValue decodedFrom pathOf queryOf rawRight noDots segmentsRight decodedRight targetOf fieldOf eachField lowerOf upperOf rulesOf hostRight contentOf valuesOf bodyOf fixed passed addedBy grouped
 further-right = refl

@@ -1,19 +1,20 @@
 -- What is claimed of the gateway step.
 -- Assumes nothing.
-use Prim.Native.Nat.{ℕ}
+use Prim.Native.Nat.{ℕ, _+_, _≤_}
 use mathlib.Core.Path.{_≡_}
 use mathlib.Core.Bool.{true}
 use mathlib.Core.Logic.{_↔_}
 use mathlib.Core.List.{List, [], _∷_, map}
 use lib.Dec.{leb}
-use lib.ListN.{length}
+use lib.ListN.{length, take, drop}
 use Rattle.octets.specs.Outcome.{refused, gives, then, need}
 use Rattle.octets.specs.Kinds.{oneOf}
 use Rattle.framing.specs.Claims.{Frames, SpoolsEqual, SpoolCut, SpoolGoesOn}
-use Rattle.headers.specs.Block.{printed}
+use Rattle.headers.specs.Block.{Header, Among, parsed, printed}
 use Rattle.scgi.specs.Grammar.{encoded, IsRequest}
 use Rattle.scgi.specs.Claims.{ReadBack}
-use Rattle.lent.specs.Mounts.{Route}
+use Rattle.targets.specs.Target.{Target, targetOf}
+use Rattle.lent.specs.Mounts.{Mount, mountFor, routeOf}
 use Rattle.lent.specs.Lent.{Lent, lentOf}
 use Rattle.variables.specs.Meaning.{Meaning}
 use Rattle.variables.specs.Variables.{variables}
@@ -28,22 +29,39 @@ BytesExactlyMeaning =
     → stepOf facts site mounts http room ≡ gives f → stepOf facts site mounts http′ room′ ≡ gives f′
     → (f .scgi ≡ f′ .scgi) ↔ (meaningAt http ≡ meaningAt http′)
 
--- what is written for an accepted request: the variables of its meaning and the meaning's body, a request of the 2008 text within our limits;
--- whatever stands behind it, the SCGI reader accepts it, with just this block and this body, and uses just the bytes written
+-- what is written for an accepted request: the variables of its meaning and the meaning's body, a request of the 2008 text within our limits,
+-- under the mount that wins for the decoded path: "SCRIPT_NAME is that name, PATH_INFO the rest", and the pool is that mount's; whatever stands
+-- behind it, the SCGI reader accepts it, with just this block and this body, and uses just the bytes written
 pub record WrittenFor (facts site mounts http rest : List ℕ) (f : Forward) : Type 0 where
   pub lent : Lent
-  pub route : Route
   pub meaning : Meaning
+  pub target : Target
+  pub mount : Mount
   pub is-lent : lentOf facts site mounts ≡ gives lent
   pub means : meaningAt http ≡ gives meaning
-  pub bytes : f .scgi ≡ encoded (variables (lent .settings) route meaning) (meaning .body)
-  pub request : IsRequest (variables (lent .settings) route meaning) (meaning .body)
-  pub read : ReadBack (printed (variables (lent .settings) route meaning)) (meaning .body) (f .scgi) rest
+  pub is-target : targetOf (meaning .target) ≡ gives target
+  pub wins : mountFor (lent .mounts) (target .path) ≡ gives mount
+  pub pool : (f .poolStart ≡ mount .poolStart) × (f .poolLength ≡ mount .poolLength)
+  pub bytes : f .scgi ≡ encoded (variables (lent .settings) (routeOf mount (target .path)) meaning) (meaning .body)
+  pub request : IsRequest (variables (lent .settings) (routeOf mount (target .path)) meaning) (meaning .body)
+  pub read : ReadBack (printed (variables (lent .settings) (routeOf mount (target .path)) meaning)) (meaning .body) (f .scgi) rest
 
 abbrev pub WrittenIsAccepted : Type 0
 WrittenIsAccepted =
     (facts site mounts http rest : List ℕ) (room : ℕ) (f : Forward)
     → stepOf facts site mounts http room ≡ gives f → WrittenFor facts site mounts http rest f
+
+-- the pool of an accepted request lies in the mounts block, and is the value of one of its headers: "each value, the pool"
+pub record PoolStands (mounts : List ℕ) (f : Forward) : Type 0 where
+  pub name : List ℕ
+  pub hs : List Header
+  pub are : parsed mounts ≡ gives hs
+  pub inside : f .poolStart + f .poolLength ≤ length mounts
+  pub value : Among (record { name = name; value = take (f .poolLength) (drop (f .poolStart) mounts) }) hs
+
+abbrev pub PoolIsValue : Type 0
+PoolIsValue =
+    (facts site mounts http : List ℕ) (room : ℕ) (f : Forward) → stepOf facts site mounts http room ≡ gives f → PoolStands mounts f
 
 -- HTTP requests end to end frame as spools do, by the bytes used of each: an accepted request keeps its answer when bytes follow, and gives 1
 -- when it is cut short

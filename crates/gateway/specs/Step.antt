@@ -5,11 +5,11 @@ use mathlib.Core.List.{List}
 use lib.Dec.{leb}
 use lib.ListN.{length, take, drop}
 use Rattle.octets.specs.Outcome.{Outcome, gives, then, need}
-use Rattle.headers.specs.Block.{Header, printed}
+use Rattle.headers.specs.Block.{printed}
 use Rattle.scgi.specs.Grammar.{encoded}
 use Rattle.http.specs.Head.{headOf}
 use Rattle.lent.specs.Settings.{Settings}
-use Rattle.lent.specs.Mounts.{Route, mountFor, routeOf}
+use Rattle.lent.specs.Mounts.{Mount, Route, mountFor, routeOf}
 use Rattle.lent.specs.Lent.{Lent, lentOf}
 use Rattle.request.specs.Request.{requestOf}
 use Rattle.variables.specs.Meaning.{Meaning, meaningOf}
@@ -39,21 +39,18 @@ meaningAt http =
     then (bodyOf http h (q .bodyLength)) (λ b.
     gives (meaningOf (q .first) (q .fields) (b .body)))))
 
--- "each value, the pool"
-abbrev pub poolOf : Header → List ℕ
-poolOf m = m .value
-
--- the step's answer: the SCGI bytes; "The answer also names the pool and the bytes used."
+-- the step's answer: the SCGI bytes; "The answer also names the pool and the bytes used.": the pool by its place in the mounts block
 pub record Forward : Type 0 where
   pub scgi : List ℕ
-  pub pool : List ℕ
+  pub poolStart : ℕ
+  pub poolLength : ℕ
   pub used : ℕ
 
 -- 22: "variables of a gateway request above 16,384 bytes"
-unfoldable pub writtenFor : Settings → Route → Meaning → List ℕ → ℕ → Outcome Forward
-writtenFor s r m pool used =
-    need (leb (length (printed (variables s r m))) 16384) 22
-    (gives (record { scgi = bytesOf s r m; pool = pool; used = used }))
+unfoldable pub writtenFor : Settings → Mount → Route → Meaning → ℕ → Outcome Forward
+writtenFor s m r meaning used =
+    need (leb (length (printed (variables s r meaning))) 16384) 22
+    (gives (record { scgi = bytesOf s r meaning; poolStart = m .poolStart; poolLength = m .poolLength; used = used }))
 
 -- "Order: 20; then 11 or 1; 12; 13; 14; 15; 16; 17; 18; 19; 9; 1 for a short body; 22": what is to be written, whatever the room.
 unfoldable pub forwardOf : Outcome Lent → List ℕ → Outcome Forward
@@ -64,7 +61,7 @@ forwardOf lent http =
     then (mountFor (l .mounts) (q .path)) (λ m.
     then (bodyOf http h (q .bodyLength)) (λ b.
     let meaning = meaningOf (q .first) (q .fields) (b .body) in
-    writtenFor (l .settings) (routeOf m (q .path)) meaning (poolOf m) (b .used))))))
+    writtenFor (l .settings) m (routeOf m (q .path)) meaning (b .used))))))
 
 -- ".. 21": "output shorter than the bytes to be written", for an output of `room` bytes
 unfoldable pub stepWith : Outcome Lent → List ℕ → ℕ → Outcome Forward

@@ -1,9 +1,7 @@
 -- `capi::forward::oy_gateway` meets its contract.
 -- Assumes nothing.
+use Rattle.capi.proofs.Forwards.{no-room, step-refused, step-told}
 use native.Mathlib.Omega.{arith}
-use mathlib.Core.Path.{_∙_}
-use Rattle.capi.proofs.Forwards.{no-room, step-refused, step-told, not-both}
-use Prim.{absurd}
 use borrow.Author.Needs.{needs}
 use Rattle.capi.proofs.forward.oy_gateway.Statement.{statement}
 use Rattle.capi.proofs.forward.oy_gateway.Tie as tie
@@ -20,29 +18,22 @@ step-requires c κs = search needs
 enum-known-s : tie.Need-enum-known-s
 enum-known-s c = search needs
 
-enum-known-s-2 : tie.Need-enum-known-s-2
-enum-known-s-2 c = search needs
-
-enum-known-s-3 : tie.Need-enum-known-s-3
-enum-known-s-3 c = search needs
-
 enum-told : tie.Need-enum-told
 enum-told c = search needs
+
+number-requires : tie.Need-number-requires
+number-requires c κs = search needs
+
+cast-result : tie.Need-cast-result
+cast-result c = search needs
 
 same-length : tie.Need-same-length
 same-length c = search needs
 
 returns-2 : tie.Need-returns-2
-returns-2 c = absurd (not-both (c .enum-told .given .1))
-
-cast-result : tie.Need-cast-result
-cast-result c = search needs
-
-same-length-2 : tie.Need-same-length-2
-same-length-2 c = search needs
-
-returns-3 : tie.Need-returns-3
-returns-3 c = step-refused _ _ _ _ _ _ _ (c .before .before .before .before .before .before .before .before .step .ensures) _ _ (c .before .before .before .before .s2 .given .1 ∙ c .before .s3 .given .1)
+returns-2 c =
+    let e = c .before .enum-told .given .1 in
+    rw (c .number .ensures, e) (step-refused _ _ _ _ _ _ _ (c .before .before .before .before .before .step .ensures) _ _ e)
 
 slice-aggregate-give : tie.Need-slice-aggregate-give
 slice-aggregate-give c = search needs
@@ -50,14 +41,14 @@ slice-aggregate-give c = search needs
 give-requires : tie.Need-give-requires
 give-requires c κs = search needs
 
+same-length-2 : tie.Need-same-length-2
+same-length-2 c = search needs
+
 same-length-3 : tie.Need-same-length-3
 same-length-3 c = search needs
 
-same-length-4 : tie.Need-same-length-4
-same-length-4 c = search needs
-
-returns-4 : tie.Need-returns-4
-returns-4 c = step-told _ _ _ _ _ _ _ (c .before .before .before .before .before .before .before .before .before .before .step .ensures) _ (omega arith) _ _ _ _ (c .before .before .before .before .before .before .s .given .1) _ _ (c .before .before .give .ensures)
+returns-3 : tie.Need-returns-3
+returns-3 c = step-told _ _ _ _ _ _ _ (c .before .before .before .before .before .before .before .before .before .before .step .ensures) _ (omega arith) _ _ _ _ (c .before .before .before .before .before .before .s .given .1) _ _ (c .before .before .give .ensures)
 
 pub oy-gateway-spec : {M : Type 1} → statement M
 oy-gateway-spec =
@@ -67,16 +58,13 @@ oy-gateway-spec =
     returns
     step-requires
     enum-known-s
-    enum-known-s-2
-    enum-known-s-3
     enum-told
+    number-requires
+    cast-result
     same-length
     returns-2
-    cast-result
-    same-length-2
-    returns-3
     slice-aggregate-give
     give-requires
+    same-length-2
     same-length-3
-    same-length-4
-    returns-4)
+    returns-3)

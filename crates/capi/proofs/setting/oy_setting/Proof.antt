@@ -1,15 +1,33 @@
 -- `capi::setting::oy_setting` meets its contract.
 -- Assumes nothing.
 use mathlib.Core.Path.{sym, ap, _∙_}
-use borrow.Author.Needs.{needs}
-use Rattle.headers.specs.Setting.{settingOutcome}
+use Rattle.headers.specs.Setting.{soughtOutcome}
+use Rattle.headers.specs.declared.setting.Sought.the-variants.{Found}
 use Rattle.capi.specs.Setting.{heldNumbers}
 use Rattle.capi.proofs.Answers.{refusal, gave}
+use borrow.Author.Needs.{needs}
 use Rattle.capi.proofs.setting.oy_setting.Statement.{statement}
 use Rattle.capi.proofs.setting.oy_setting.Tie as tie
 
 find-setting-requires : tie.Need-find-setting-requires
 find-setting-requires c κs = search needs
+
+enum-known-s : tie.Need-enum-known-s
+enum-known-s c = search needs
+
+enum-told : tie.Need-enum-told
+enum-told c = search needs
+
+number-requires : tie.Need-number-requires
+number-requires c κs = search needs
+
+cast-result : tie.Need-cast-result
+cast-result c = search needs
+
+returns : tie.Need-returns
+returns c =
+    let e = c .before .enum-told .given .1 in
+    rw (c .number .ensures, e) (refusal heldNumbers _ _ (sym (c .before .before .before .find-setting .ensures) ∙ ap soughtOutcome e))
 
 enum-known-w : tie.Need-enum-known-w
 enum-known-w c = search needs
@@ -29,8 +47,8 @@ slice-aggregate-give-2 c = search needs
 give-requires-2 : tie.Need-give-requires-2
 give-requires-2 c κs = search needs
 
-enum-told : tie.Need-enum-told
-enum-told c = search needs
+enum-told-2 : tie.Need-enum-told-2
+enum-told-2 c = search needs
 
 slice-aggregate-give-3 : tie.Need-slice-aggregate-give-3
 slice-aggregate-give-3 c = search needs
@@ -38,62 +56,46 @@ slice-aggregate-give-3 c = search needs
 give-requires-3 : tie.Need-give-requires-3
 give-requires-3 c κs = search needs
 
-enum-known-w-3 : tie.Need-enum-known-w-3
-enum-known-w-3 c = search needs
-
-cast-result : tie.Need-cast-result
-cast-result c = search needs
-
 same-length : tie.Need-same-length
 same-length c = search needs
 
-returns : tie.Need-returns
-returns c =
-    let g = c .before .before in
-    let m = g .before .before .before .before in
-    gave heldNumbers (sym (m .before .before .find-setting .ensures) ∙ ap settingOutcome (m .w .given .1)) (g .give .ensures)
+returns-2 : tie.Need-returns-2
+returns-2 c = gave heldNumbers (sym (c .before .before .before .before .before .before .before .before .before .before .before .find-setting .ensures) ∙ ap soughtOutcome (c .before .before .before .before .before .before .before .before .before .s .given .1 ∙ ap Found (c .before .before .before .before .before .before .w .given .1))) (c .before .before .give .ensures)
 
 same-length-2 : tie.Need-same-length-2
 same-length-2 c = search needs
 
-returns-2 : tie.Need-returns-2
-returns-2 c =
-    let g = c .before .before in
-    let m = g .before .before .before .before in
-    gave heldNumbers (sym (m .before .before .find-setting .ensures) ∙ ap settingOutcome (m .w2 .given .1)) (g .give2 .ensures)
+returns-3 : tie.Need-returns-3
+returns-3 c = gave heldNumbers (sym (c .before .before .before .before .before .before .before .before .before .before .before .find-setting .ensures) ∙ ap soughtOutcome (c .before .before .before .before .before .before .before .before .before .s .given .1 ∙ ap Found (c .before .before .before .before .before .before .w2 .given .1))) (c .before .before .give2 .ensures)
 
 same-length-3 : tie.Need-same-length-3
 same-length-3 c = search needs
 
-returns-3 : tie.Need-returns-3
-returns-3 c =
-    let g = c .before .before in
-    let t = g .before .before .before in
-    gave heldNumbers (sym (t .before .before .find-setting .ensures) ∙ ap settingOutcome (t .enum-told .given .1)) (g .give3 .ensures)
-
 returns-4 : tie.Need-returns-4
-returns-4 c = refusal heldNumbers _ _ (sym (c .before .before .before .find-setting .ensures) ∙ ap settingOutcome (c .before .w3 .given .1))
+returns-4 c = gave heldNumbers (sym (c .before .before .before .before .before .before .before .before .before .before .find-setting .ensures) ∙ ap soughtOutcome (c .before .before .before .before .before .before .before .before .s .given .1 ∙ ap Found (c .before .before .before .before .before .enum-told2 .given .1))) (c .before .before .give3 .ensures)
 
 pub oy-setting-spec : {M : Type 1} → statement M
 oy-setting-spec =
     tie.close
     (tie.spec
     find-setting-requires
+    enum-known-s
+    enum-told
+    number-requires
+    cast-result
+    returns
     enum-known-w
     slice-aggregate-give
     give-requires
     enum-known-w-2
     slice-aggregate-give-2
     give-requires-2
-    enum-told
+    enum-told-2
     slice-aggregate-give-3
     give-requires-3
-    enum-known-w-3
-    cast-result
     same-length
-    returns
-    same-length-2
     returns-2
-    same-length-3
+    same-length-2
     returns-3
+    same-length-3
     returns-4)

@@ -1,8 +1,8 @@
 -- `capi::spool::oy_spool` meets its contract.
 -- Assumes nothing.
+use Rattle.capi.proofs.Spools.{too-short, told}
 use native.Mathlib.Omega.{arith}
 use borrow.Author.Needs.{needs}
-use Rattle.capi.proofs.Spools.{too-short, told}
 use Rattle.capi.proofs.spool.oy_spool.Statement.{statement}
 use Rattle.capi.proofs.spool.oy_spool.Tie as tie
 
@@ -15,8 +15,11 @@ spool-requires c κs = search needs
 ending-number-requires : tie.Need-ending-number-requires
 ending-number-requires c κs = search needs
 
-ending-refusal-requires : tie.Need-ending-refusal-requires
-ending-refusal-requires c κs = search needs
+number-requires : tie.Need-number-requires
+number-requires c κs = search needs
+
+cast-refusal : tie.Need-cast-refusal
+cast-refusal c = search needs
 
 slice-aggregate-give : tie.Need-slice-aggregate-give
 slice-aggregate-give c = search needs
@@ -31,12 +34,7 @@ same-length-2 : tie.Need-same-length-2
 same-length-2 c = search needs
 
 returns-2 : tie.Need-returns-2
-returns-2 c =
-    let g = c .before .before in
-    let f = g .before .before .before in
-    let k = f .before in
-    let s = k .before .before .before in
-    told _ _ _ (omega arith) _ _ _ (s .spool .ensures) _ _ _ (k .ending-number .ensures) (f .ending-refusal .ensures) (g .give .ensures)
+returns-2 c = told _ _ _ (omega arith) _ _ _ (c .before .before .before .before .before .before .before .before .before .spool .ensures) _ _ _ (c .before .before .before .before .before .before .ending-number .ensures) (c .before .before .before .before .before .number .ensures) (c .before .before .give .ensures)
 
 pub oy-spool-spec : {M : Type 1} → statement M
 oy-spool-spec =
@@ -45,7 +43,8 @@ oy-spool-spec =
     returns
     spool-requires
     ending-number-requires
-    ending-refusal-requires
+    number-requires
+    cast-refusal
     slice-aggregate-give
     give-requires
     same-length

@@ -1,9 +1,8 @@
 -- `capi::write::oy_scgi_write` meets its contract.
 -- Assumes nothing.
-use mathlib.Core.Path.{_∙_}
+use Rattle.capi.proofs.Writes.{no-room, write-refused, write-told}
 use native.Mathlib.Omega.{arith}
 use borrow.Author.Needs.{needs}
-use Rattle.capi.proofs.Writes.{no-room, write-refused, write-told}
 use Rattle.capi.proofs.write.oy_scgi_write.Statement.{statement}
 use Rattle.capi.proofs.write.oy_scgi_write.Tie as tie
 
@@ -19,29 +18,22 @@ write-requires c κs = search needs
 enum-known-w : tie.Need-enum-known-w
 enum-known-w c = search needs
 
-enum-known-w-2 : tie.Need-enum-known-w-2
-enum-known-w-2 c = search needs
-
-enum-known-w-3 : tie.Need-enum-known-w-3
-enum-known-w-3 c = search needs
-
 enum-told : tie.Need-enum-told
 enum-told c = search needs
+
+number-requires : tie.Need-number-requires
+number-requires c κs = search needs
+
+cast-result : tie.Need-cast-result
+cast-result c = search needs
 
 same-length : tie.Need-same-length
 same-length c = search needs
 
 returns-2 : tie.Need-returns-2
-returns-2 c = search needs
-
-cast-result : tie.Need-cast-result
-cast-result c = search needs
-
-same-length-2 : tie.Need-same-length-2
-same-length-2 c = search needs
-
-returns-3 : tie.Need-returns-3
-returns-3 c = write-refused _ _ _ _ _ (c .before .before .before .before .before .before .before .before .write .ensures) _ _ (c .before .before .before .before .w2 .given .1 ∙ c .before .w3 .given .1)
+returns-2 c =
+    let e = c .before .enum-told .given .1 in
+    rw (c .number .ensures, e) (write-refused _ _ _ _ _ (c .before .before .before .before .before .write .ensures) _ _ e)
 
 slice-aggregate-give : tie.Need-slice-aggregate-give
 slice-aggregate-give c = search needs
@@ -49,18 +41,14 @@ slice-aggregate-give c = search needs
 give-requires : tie.Need-give-requires
 give-requires c κs = search needs
 
+same-length-2 : tie.Need-same-length-2
+same-length-2 c = search needs
+
 same-length-3 : tie.Need-same-length-3
 same-length-3 c = search needs
 
-same-length-4 : tie.Need-same-length-4
-same-length-4 c = search needs
-
-returns-4 : tie.Need-returns-4
-returns-4 c =
-    let g = c .before .before in
-    let m = g .before .before .before .before in
-    let w = m .before .before .before .before in
-    write-told _ _ _ _ _ (w .write .ensures) _ (omega arith) _ (m .w .given .1) _ _ (g .give .ensures)
+returns-3 : tie.Need-returns-3
+returns-3 c = write-told _ _ _ _ _ (c .before .before .before .before .before .before .before .before .before .before .write .ensures) _ (omega arith) _ (c .before .before .before .before .before .before .w .given .1) _ _ (c .before .before .give .ensures)
 
 pub oy-scgi-write-spec : {M : Type 1} → statement M
 oy-scgi-write-spec =
@@ -70,16 +58,13 @@ oy-scgi-write-spec =
     returns
     write-requires
     enum-known-w
-    enum-known-w-2
-    enum-known-w-3
     enum-told
+    number-requires
+    cast-result
     same-length
     returns-2
-    cast-result
-    same-length-2
-    returns-3
     slice-aggregate-give
     give-requires
+    same-length-2
     same-length-3
-    same-length-4
-    returns-4)
+    returns-3)

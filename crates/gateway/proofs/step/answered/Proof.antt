@@ -1,6 +1,6 @@
 -- `gateway::step::answered` meets its contract.
 -- Assumes nothing.
-use mathlib.Core.Path.{sym, ap, _∙_}
+use mathlib.Core.Path.{sym, ap}
 use Rattle.gateway.specs.Stepping.{steppingBy}
 use borrow.Author.Needs.{needs}
 use Rattle.gateway.proofs.step.answered.Statement.{statement}
@@ -9,29 +9,19 @@ use Rattle.gateway.proofs.step.answered.Tie as tie
 enum-known-w : tie.Need-enum-known-w
 enum-known-w c = search needs
 
-enum-known-w-2 : tie.Need-enum-known-w-2
-enum-known-w-2 c = search needs
-
-enum-known-w-3 : tie.Need-enum-known-w-3
-enum-known-w-3 c = search needs
-
 enum-told : tie.Need-enum-told
 enum-told c = search needs
 
+number-requires : tie.Need-number-requires
+number-requires c κs = search needs
+
 returns : tie.Need-returns
-returns c = search needs
+returns c = rw (c .number .ensures, c .before .enum-told .given .1)
 
 returns-2 : tie.Need-returns-2
 returns-2 c =
-    let a = c .before .before .before .before .before .before .args in
-    sym (ap (steppingBy (a .pool-start) (a .pool-len) (a .used)) (c .before .before .before .before .w2 .given .1 ∙ c .before .w3 .given .1))
-
-returns-3 : tie.Need-returns-3
-returns-3 c =
     let a = c .before .before .before .args in
     sym (ap (steppingBy (a .pool-start) (a .pool-len) (a .used)) (c .before .w .given .1))
 
 pub answered-spec : {M : Type 1} → statement M
-answered-spec =
-    tie.close
-    (tie.spec enum-known-w enum-known-w-2 enum-known-w-3 enum-told returns returns-2 returns-3)
+answered-spec = tie.close (tie.spec enum-known-w enum-told number-requires returns returns-2)

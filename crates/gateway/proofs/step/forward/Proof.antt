@@ -1,22 +1,28 @@
 -- `gateway::step::forward` meets its contract.
 -- Assumes nothing.
-use native.Mathlib.Omega.{arith}
 use Prim.Native.Nat.{_+_, _-_}
 use mathlib.Core.Path.{sym, ap, _∙_}
 use lib.ListN.{length, take, drop, length-take}
 use lib.Seq.{length-take-le}
 use Rattle.octets.proofs.Lists.{part}
 use Rattle.lent.specs.Search.{mountOutcome}
-use Rattle.headers.specs.Block.{parsed}
-use Rattle.lent.specs.Mounts.{routeOf}
+use Rattle.lent.specs.Mounts.{mountsAt, routeOf}
 use Rattle.lent.specs.Places.{settingsAt}
 use Rattle.variables.specs.Meaning.{meaningOf}
 use Rattle.request.specs.RequestRead.{lineIn, pathIn, fieldsIn, requestIn}
 use Rattle.gateway.specs.Stepping.{forwardFrom, roomFor}
-use Rattle.gateway.proofs.StepParts.{left-alone, no-mount, body-above, body-short, body-there, answered-by, routed}
+use Rattle.gateway.proofs.StepParts.{left-alone, no-mount, body-above, body-short, body-there, answered-by, mountBy, lost, Won, won, routed}
+use native.Mathlib.Omega.{arith}
 use borrow.Author.Needs.{needs}
 use Rattle.gateway.proofs.step.forward.Statement.{statement}
 use Rattle.gateway.proofs.step.forward.Tie as tie
+
+-- the mount, where the pattern matched
+got :
+    (c : tie.After-known-told)
+    → (let a = c .before .before .before .before .before .before .before .before .before .before .before .before .args in
+    Won (a .mounts .now) (pathIn (a .path .now) (a .line)) (c .before .m .given .0 .0) (c .before .m .given .0 .1 .0) (c .before .m .given .0 .1 .1 .0))
+got c = won _ _ _ _ _ (ap mountOutcome (sym (c .before .m .given .1)) ∙ c .before .before .before .search .ensures)
 
 slice-aggregate-search : tie.Need-slice-aggregate-search
 slice-aggregate-search c = sym (length-take-le _ _ (c .before .before .before .before .before .before .before .before .pre .5 .decoded-inside))
@@ -27,35 +33,36 @@ search-requires c κs = c .before .before .before .before .before .before .befor
 enum-known-m : tie.Need-enum-known-m
 enum-known-m c = search needs
 
-enum-known-m-2 : tie.Need-enum-known-m-2
-enum-known-m-2 c = search needs
-
-enum-known-m-3 : tie.Need-enum-known-m-3
-enum-known-m-3 c = search needs
-
 enum-told : tie.Need-enum-told
 enum-told c = search needs
 
+number-requires : tie.Need-number-requires
+number-requires c κs = search needs
+
 returns : tie.Need-returns
-returns c = search needs
+returns c =
+    let a = c .before .before .before .before .before .before .before .before .before .before .before .before .args in
+    let e = c .before .enum-told .given .1 in
+    let s = settingsAt (a .facts .now) (a .site .now) (a .settings) in
+    let q = requestIn (take (a .head-len - 4) (a .http .now)) (a .places .now) (a .path .now) (a .line) (a .fields) in
+    rw (c .number .ensures, e) (left-alone (roomFor (length (a .out .now)) (forwardFrom s (mountsAt (a .mounts .now)) (a .http .now) (a .head-len) q)) (a .out .now) _ (no-mount s (mountsAt (a .mounts .now)) (a .http .now) (a .head-len) q (length (a .out .now)) _ (lost _ _ _ (ap mountOutcome (sym e) ∙ c .before .before .before .search .ensures))))
 
 returns-2 : tie.Need-returns-2
 returns-2 c =
-    let a = c .before .before .before .before .before .before .before .before .before .before .before .before .before .before .before .args in
-    left-alone (roomFor (length (a .out .now)) (forwardFrom (settingsAt (a .facts .now) (a .site .now) (a .settings)) (parsed (a .mounts .now)) (a .http .now) (a .head-len) (requestIn (take (a .head-len - 4) (a .http .now)) (a .places .now) (a .path .now) (a .line) (a .fields)))) (a .mounts .now) (a .out .now) _ (no-mount (settingsAt (a .facts .now) (a .site .now) (a .settings)) (parsed (a .mounts .now)) (a .http .now) (a .head-len) (requestIn (take (a .head-len - 4) (a .http .now)) (a .places .now) (a .path .now) (a .line) (a .fields)) (length (a .out .now)) _ (sym (c .before .before .before .before .before .before .search .ensures .answer) ∙ ap (mountOutcome (a .mounts .now) (pathIn (a .path .now) (a .line))) (c .before .before .before .before .m2 .given .1 ∙ c .before .m3 .given .1)))
-
-returns-3 : tie.Need-returns-3
-returns-3 c =
     let a = c .before .before .before .before .before .before .before .before .before .before .before .before .before .before .args in
-    left-alone (roomFor (length (a .out .now)) (forwardFrom (settingsAt (a .facts .now) (a .site .now) (a .settings)) (parsed (a .mounts .now)) (a .http .now) (a .head-len) (requestIn (take (a .head-len - 4) (a .http .now)) (a .places .now) (a .path .now) (a .line) (a .fields)))) (a .mounts .now) (a .out .now) _ (body-above (settingsAt (a .facts .now) (a .site .now) (a .settings)) (parsed (a .mounts .now)) (a .http .now) (a .head-len) (requestIn (take (a .head-len - 4) (a .http .now)) (a .places .now) (a .path .now) (a .line) (a .fields)) (length (a .out .now)) _ (sym (rw (c .before .before .before .m .given .1) at (c .before .before .before .before .before .search .ensures .answer))) (c .if1 .taken))
+    let s = settingsAt (a .facts .now) (a .site .now) (a .settings) in
+    let q = requestIn (take (a .head-len - 4) (a .http .now)) (a .places .now) (a .path .now) (a .line) (a .fields) in
+    left-alone (roomFor (length (a .out .now)) (forwardFrom s (mountsAt (a .mounts .now)) (a .http .now) (a .head-len) q)) (a .out .now) _ (body-above s (mountsAt (a .mounts .now)) (a .http .now) (a .head-len) q (length (a .out .now)) _ (got (c .before .before) .wins) (c .if1 .taken))
 
 add-used : tie.Need-add-used
 add-used c = search needs
 
-returns-4 : tie.Need-returns-4
-returns-4 c =
+returns-3 : tie.Need-returns-3
+returns-3 c =
     let a = c .before .before .before .before .before .before .before .before .before .before .before .before .before .before .before .args in
-    left-alone (roomFor (length (a .out .now)) (forwardFrom (settingsAt (a .facts .now) (a .site .now) (a .settings)) (parsed (a .mounts .now)) (a .http .now) (a .head-len) (requestIn (take (a .head-len - 4) (a .http .now)) (a .places .now) (a .path .now) (a .line) (a .fields)))) (a .mounts .now) (a .out .now) _ (body-short (settingsAt (a .facts .now) (a .site .now) (a .settings)) (parsed (a .mounts .now)) (a .http .now) (a .head-len) (requestIn (take (a .head-len - 4) (a .http .now)) (a .places .now) (a .path .now) (a .line) (a .fields)) (length (a .out .now)) _ (sym (rw (c .before .before .before .before .m .given .1) at (c .before .before .before .before .before .before .search .ensures .answer))) (c .before .if1 .left) (c .if2 .taken))
+    let s = settingsAt (a .facts .now) (a .site .now) (a .settings) in
+    let q = requestIn (take (a .head-len - 4) (a .http .now)) (a .places .now) (a .path .now) (a .line) (a .fields) in
+    left-alone (roomFor (length (a .out .now)) (forwardFrom s (mountsAt (a .mounts .now)) (a .http .now) (a .head-len) q)) (a .out .now) _ (body-short s (mountsAt (a .mounts .now)) (a .http .now) (a .head-len) q (length (a .out .now)) _ (got (c .before .before .before) .wins) (c .before .if1 .left) (c .if2 .taken))
 
 sub-head : tie.Need-sub-head
 sub-head c = search needs
@@ -73,7 +80,11 @@ part-body-end : tie.Need-part-body-end
 part-body-end c = search needs
 
 write-request-requires : tie.Need-write-request-requires
-write-request-requires c κs = (record { settings = c .before .before .before .before .before .before .before .before .before .before .before .before .before .before .before .before .before .before .pre .0; line = c .before .before .before .before .before .before .before .before .before .before .before .before .before .before .before .before .before .before .pre .5; fields = c .before .before .before .before .before .before .before .before .before .before .before .before .before .before .before .before .before .before .pre .6; numbers = c .before .before .before .before .before .before .before .before .before .before .before .before .before .before .before .before .before .before .pre .4; name = omega (arith, (rw (c .before .before .before .before .before .before .before .m .given .1) at (c .before .before .before .before .before .before .before .before .before .search .ensures .inside)) .0, length-take (c .before .before .before .before .before .before .before .before .before .before .before .before .before .before .before .before .before .before .args .line .decoded) (c .before .before .before .before .before .before .before .before .before .before .before .before .before .before .before .before .before .before .args .path .now)) }, simp length-take (omega (arith, c .before .before .before .before .if1 .left)))
+write-request-requires c κs =
+    let s = c .before .before .before .before .before .before .before .before .before .before .before .before .before .before .before .before .before .before in (
+      record { settings = s .pre .0; line = s .pre .5; fields = s .pre .6; numbers = s .pre .4; name = omega (arith, got (c .before .before .before .before .before .before) .inside, length-take (s .args .line .decoded) (s .args .path .now)) },
+      simp length-take (omega (arith, c .before .before .before .before .if1 .left)),
+    )
 
 answered-requires : tie.Need-answered-requires
 answered-requires c κs = search needs
@@ -81,10 +92,20 @@ answered-requires c κs = search needs
 same-length : tie.Need-same-length
 same-length c = search needs
 
-returns-5 : tie.Need-returns-5
-returns-5 c =
+returns-4 : tie.Need-returns-4
+returns-4 c =
     let a = c .before .before .before .before .before .before .before .before .before .before .before .before .before .before .before .before .before .before .before .before .before .before .args in
-    rw ((body-there (settingsAt (a .facts .now) (a .site .now) (a .settings)) (parsed (a .mounts .now)) (a .http .now) (a .head-len) (requestIn (take (a .head-len - 4) (a .http .now)) (a .places .now) (a .path .now) (a .line) (a .fields)) (length (a .out .now)) _ (sym (rw (c .before .before .before .before .before .before .before .before .before .before .before .m .given .1) at (c .before .before .before .before .before .before .before .before .before .before .before .before .before .search .ensures .answer))) (c .before .before .before .before .before .before .before .before .if1 .left) (c .before .before .before .before .before .before .before .if2 .left)), c .answered .ensures) (answered-by (settingsAt (a .facts .now) (a .site .now) (a .settings)) (routeOf (record { name = take (c .before .before .before .before .before .before .before .before .before .before .before .m .given .0 .0) (pathIn (a .path .now) (a .line)); value = (take (c .before .before .before .before .before .before .before .before .before .before .before .m .given .0 .1 .1 .0) (drop (c .before .before .before .before .before .before .before .before .before .before .before .m .given .0 .1 .0) (a .mounts .now))) }) (pathIn (a .path .now) (a .line))) (meaningOf (lineIn (take (a .head-len - 4) (a .http .now)) (a .line)) (fieldsIn (take (a .head-len - 4) (a .http .now)) (a .places .now) (a .fields)) (take (a .fields .body) (drop (a .head-len) (a .http .now)))) (a .mounts .now) (a .out .now) _ (c .before .before .before .before .before .before .before .before .before .before .before .m .given .0 .1 .0) (c .before .before .before .before .before .before .before .before .before .before .before .m .given .0 .1 .1 .0) (a .head-len + a .fields .body) _ ((rw (c .before .before .before .before .before .before .before .before .before .before .before .m .given .1) at (c .before .before .before .before .before .before .before .before .before .before .before .before .before .search .ensures .inside)) .1) (routed (settingsAt (a .facts .now) (a .site .now) (a .settings)) (meaningOf (lineIn (take (a .head-len - 4) (a .http .now)) (a .line)) (fieldsIn (take (a .head-len - 4) (a .http .now)) (a .places .now) (a .fields)) (take (a .fields .body) (drop (a .head-len) (a .http .now)))) (pathIn (a .path .now) (a .line)) (c .before .before .before .before .before .before .before .before .before .before .before .m .given .0 .0) (take (c .before .before .before .before .before .before .before .before .before .before .before .m .given .0 .1 .1 .0) (drop (c .before .before .before .before .before .before .before .before .before .before .before .m .given .0 .1 .0) (a .mounts .now))) (a .out .now) _ ((rw (c .before .before .before .before .before .before .before .before .before .before .before .m .given .1) at (c .before .before .before .before .before .before .before .before .before .before .before .before .before .search .ensures .inside)) .0) (rw (part (a .http .now) (a .head-len) (a .fields .body)) at (c .before .before .before .write-request .ensures))))
+    let k = c .before .before .before .before .before .before .before .before .before .before in
+    let n = k .before .m .given .0 .0 in
+    let start = k .before .m .given .0 .1 .0 in
+    let len = k .before .m .given .0 .1 .1 .0 in
+    let s = settingsAt (a .facts .now) (a .site .now) (a .settings) in
+    let q = requestIn (take (a .head-len - 4) (a .http .now)) (a .places .now) (a .path .now) (a .line) (a .fields) in
+    let path = pathIn (a .path .now) (a .line) in
+    let meaning = meaningOf (lineIn (take (a .head-len - 4) (a .http .now)) (a .line)) (fieldsIn (take (a .head-len - 4) (a .http .now)) (a .places .now) (a .fields)) (take (a .fields .body) (drop (a .head-len) (a .http .now))) in
+    rw (body-there s (mountsAt (a .mounts .now)) (a .http .now) (a .head-len) q (length (a .out .now)) _ (got k .wins) (c .before .before .before .before .before .before .before .before .if1 .left) (c .before .before .before .before .before .before .before .if2 .left), c .answered .ensures)
+    (answered-by s (mountBy path n start len) (routeOf (mountBy path n start len) path) meaning (a .out .now) _ (a .head-len + a .fields .body) _
+    (routed s meaning path n start len (a .out .now) _ (got k .inside) (rw (part (a .http .now) (a .head-len) (a .fields .body)) at (c .before .before .before .write-request .ensures))))
 
 pub forward-spec : {M : Type 1} → statement M
 forward-spec =
@@ -93,14 +114,12 @@ forward-spec =
     slice-aggregate-search
     search-requires
     enum-known-m
-    enum-known-m-2
-    enum-known-m-3
     enum-told
+    number-requires
     returns
     returns-2
-    returns-3
     add-used
-    returns-4
+    returns-3
     sub-head
     slice-aggregate-head
     sub-body
@@ -109,4 +128,4 @@ forward-spec =
     write-request-requires
     answered-requires
     same-length
-    returns-5)
+    returns-4)

@@ -1,14 +1,15 @@
 -- `gateway::step::read_by` meets its contract.
 -- Assumes nothing.
 use Prim.Native.Nat.{_-_}
-use mathlib.Core.Path.{sym, _∙_}
-use native.Mathlib.Omega.{arith}
+use mathlib.Core.Path.{sym}
 use lib.ListN.{length, length-take}
 use lib.Seq.{length-take-le}
-use Rattle.headers.specs.Block.{parsed}
+use Rattle.lent.specs.Mounts.{mountsAt}
 use Rattle.lent.specs.Places.{settingsAt}
+use Rattle.request.proofs.Claims.{requests-told}
 use Rattle.gateway.specs.Stepping.{headFrom, roomFor}
 use Rattle.gateway.proofs.StepParts.{left-alone, head-refused, head-read}
+use native.Mathlib.Omega.{arith}
 use borrow.Author.Needs.{needs}
 use Rattle.gateway.proofs.step.read_by.Statement.{statement}
 use Rattle.gateway.proofs.step.read_by.Tie as tie
@@ -31,29 +32,21 @@ read-request-requires c κs = (c .before .before .before .before .kinds .ensures
 enum-known-q : tie.Need-enum-known-q
 enum-known-q c = search needs
 
-enum-known-q-2 : tie.Need-enum-known-q-2
-enum-known-q-2 c = search needs
-
-enum-known-q-3 : tie.Need-enum-known-q-3
-enum-known-q-3 c = search needs
-
 enum-told : tie.Need-enum-told
 enum-told c = search needs
+
+number-requires : tie.Need-number-requires
+number-requires c κs = search needs
 
 same-length : tie.Need-same-length
 same-length c = search needs
 
 returns : tie.Need-returns
-returns c = search needs
-
-same-length-2 : tie.Need-same-length-2
-same-length-2 c = search needs
-
-returns-2 : tie.Need-returns-2
-returns-2 c =
-    let a = c .before .before .before .before .before .before .before .before .before .before .before .before .before .before .before .before .before .before .before .before .before .args in
-    left-alone (roomFor (length (a .out .now)) (headFrom (settingsAt (a .facts .now) (a .site .now) (a .settings)) (parsed (a .mounts .now)) (a .http .now) (a .head-len))) (a .mounts .now) (a .out .now) _
-    (head-refused (settingsAt (a .facts .now) (a .site .now) (a .settings)) (parsed (a .mounts .now)) (a .http .now) (a .head-len) (length (a .out .now)) _ ((rw (c .before .before .before .before .q2 .given .1 ∙ c .before .q3 .given .1) at (c .before .before .before .before .before .before .before .before .before .read-request .ensures)) .answer))
+returns c =
+    let a = c .before .before .before .before .before .before .before .before .before .before .before .before .before .before .before .before .before .before .args in
+    let e = c .before .enum-told .given .1 in
+    let w = requests-told .refuses _ _ _ _ _ _ (rw e at (c .before .before .before .before .before .before .read-request .ensures)) in
+    rw (c .number .ensures, e) (left-alone (roomFor (length (a .out .now)) (headFrom (settingsAt (a .facts .now) (a .site .now) (a .settings)) (mountsAt (a .mounts .now)) (a .http .now) (a .head-len))) (a .out .now) _ (head-refused (settingsAt (a .facts .now) (a .site .now) (a .settings)) (mountsAt (a .mounts .now)) (a .http .now) (a .head-len) (length (a .out .now)) _ w))
 
 slice-aggregate-forward : tie.Need-slice-aggregate-forward
 slice-aggregate-forward c = search needs
@@ -61,18 +54,20 @@ slice-aggregate-forward c = search needs
 forward-requires : tie.Need-forward-requires
 forward-requires c κs =
     let s = c .before .before .before .before .before .before .before .before .before .before .before .before .before .before .before .before .before .before .before .before .before in
-    (s .pre .0, s .pre .1, s .pre .2, s .pre .3, search needs, (rw (c .before .before .before .before .q .given .1) at (c .before .before .before .before .before .before .before .before .before .read-request .ensures)) .known .0, (rw (c .before .before .before .before .q .given .1) at (c .before .before .before .before .before .before .before .before .before .read-request .ensures)) .known .1)
+    let w = requests-told .accepts _ _ _ _ _ _ _ (rw (c .before .before .before .before .q .given .1) at (c .before .before .before .before .before .before .before .before .before .read-request .ensures)) in
+    (s .pre .0, s .pre .1, s .pre .2, s .pre .3, search needs, w .line, w .fields)
+
+same-length-2 : tie.Need-same-length-2
+same-length-2 c = search needs
 
 same-length-3 : tie.Need-same-length-3
 same-length-3 c = search needs
 
-same-length-4 : tie.Need-same-length-4
-same-length-4 c = search needs
-
-returns-3 : tie.Need-returns-3
-returns-3 c =
+returns-2 : tie.Need-returns-2
+returns-2 c =
     let a = c .before .before .before .before .before .before .before .before .before .before .before .before .before .before .before .before .before .before .before .before .before .before .before .before .args in
-    rw (head-read (settingsAt (a .facts .now) (a .site .now) (a .settings)) (parsed (a .mounts .now)) (a .http .now) (a .head-len) (length (a .out .now)) _ ((rw (c .before .before .before .before .before .before .before .q .given .1) at (c .before .before .before .before .before .before .before .before .before .before .before .before .read-request .ensures)) .answer)) (c .before .before .forward .ensures)
+    let w = requests-told .accepts _ _ _ _ _ _ _ (rw (c .before .before .before .before .before .before .before .q .given .1) at (c .before .before .before .before .before .before .before .before .before .before .before .before .read-request .ensures)) in
+    rw (head-read (settingsAt (a .facts .now) (a .site .now) (a .settings)) (mountsAt (a .mounts .now)) (a .http .now) (a .head-len) (length (a .out .now)) _ (w .answer)) (c .before .before .forward .ensures)
 
 pub read-by-spec : {M : Type 1} → statement M
 read-by-spec =
@@ -84,15 +79,12 @@ read-by-spec =
     slice-aggregate-read-request-2
     read-request-requires
     enum-known-q
-    enum-known-q-2
-    enum-known-q-3
     enum-told
+    number-requires
     same-length
     returns
-    same-length-2
-    returns-2
     slice-aggregate-forward
     forward-requires
+    same-length-2
     same-length-3
-    same-length-4
-    returns-3)
+    returns-2)

@@ -1,11 +1,10 @@
 -- `gateway::step::write_short` meets its contract.
 -- Assumes nothing.
 use mathlib.Core.Path.{sym, _∙_}
-use native.Mathlib.Omega.{arith}
 use Rattle.variables.specs.Block.{blockAt}
-use Rattle.gateway.proofs.StepParts.{tried, tried-again}
+use Rattle.gateway.proofs.StepParts.{tried-short, tried-again}
+use native.Mathlib.Omega.{arith}
 use borrow.Author.Needs.{needs}
-use borrow.Author.Tests.{not-true, not-false}
 use Rattle.gateway.proofs.step.write_short.Statement.{statement}
 use Rattle.gateway.proofs.step.write_short.Tie as tie
 
@@ -15,8 +14,8 @@ slice-aggregate-write-by c = search needs
 write-by-requires : tie.Need-write-by-requires
 write-by-requires c κs = search needs
 
-too-large-requires : tie.Need-too-large-requires
-too-large-requires c κs = search needs
+number-requires : tie.Need-number-requires
+number-requires c κs = search needs
 
 same-length : tie.Need-same-length
 same-length c = search needs
@@ -24,7 +23,7 @@ same-length c = search needs
 returns : tie.Need-returns
 returns c =
     let a = c .before .before .before .before .before .before .before .before .before .before .before .before .before .before .before .args in
-    tried 2048 (blockAt (a .facts .now) (a .site .now) (a .head .now) (a .places .now) (a .path .now) (a .body .now) (a .settings) (a .line) (a .fields) (a .name-len)) (a .body .now) (a .out .now) _ _ (c .before .before .before .before .before .write-by .ensures) (sym (c .before .too-large .ensures) ∙ not-true _ (c .if1 .taken)) (omega arith)
+    tried-short 2048 (blockAt (a .facts .now) (a .site .now) (a .head .now) (a .places .now) (a .path .now) (a .body .now) (a .settings) (a .line) (a .fields) (a .name-len)) (a .body .now) (a .out .now) _ _ (c .before .before .before .before .before .write-by .ensures) (λ e. c .if1 .taken (c .before .number .ensures ∙ e)) (omega arith)
 
 write-large-requires : tie.Need-write-large-requires
 write-large-requires c κs = search needs
@@ -35,7 +34,7 @@ same-length-2 c = search needs
 returns-2 : tie.Need-returns-2
 returns-2 c =
     let a = c .before .before .before .before .before .before .before .before .before .before .before .before .before .before .before .before .before .before .before .args in
-    let left = tried-again 2048 (blockAt (a .facts .now) (a .site .now) (a .head .now) (a .places .now) (a .path .now) (a .body .now) (a .settings) (a .line) (a .fields) (a .name-len)) (a .body .now) (a .out .now) _ _ (c .before .before .before .before .before .before .before .before .before .write-by .ensures) (sym (c .before .before .before .before .before .too-large .ensures) ∙ not-false _ (c .before .before .before .before .if1 .left)) in
+    let left = tried-again 2048 (blockAt (a .facts .now) (a .site .now) (a .head .now) (a .places .now) (a .path .now) (a .body .now) (a .settings) (a .line) (a .fields) (a .name-len)) (a .body .now) (a .out .now) _ _ (c .before .before .before .before .before .before .before .before .before .write-by .ensures) (sym (c .before .before .before .before .before .number .ensures) ∙ c .before .before .before .before .if1 .left) in
     rw left at (c .before .before .write-large .ensures)
 
 pub write-short-spec : {M : Type 1} → statement M
@@ -44,7 +43,7 @@ write-short-spec =
     (tie.spec
     slice-aggregate-write-by
     write-by-requires
-    too-large-requires
+    number-requires
     same-length
     returns
     write-large-requires
