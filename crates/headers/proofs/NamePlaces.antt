@@ -198,6 +198,9 @@ unfolding over
 found b d ps hs e w =
     found-in hs b ps (drop (0 + length (namePlaces 0 hs)) d) 0 0 (omega arith) (sym (printed-read b hs (given-gives (headersOf b) 5 hs e) .bytes)) w
 
+pub name-length : (b ps : List ℕ) (k : ℕ) → Inside b ps k → length (nameAt b ps k) ≡ getD ps (2 * k + 1) 0
+name-length b ps k h = simp (length-take, length-drop) (omega arith)
+
 -- One name after the other.
 
 names-next : (b ps : List ℕ) (k n : ℕ) → k < n → namesAt b ps k (n - k) ≡ nameAt b ps k ∷ namesAt b ps (k + 1) (n - (k + 1))

@@ -1,7 +1,7 @@
 -- Laws of equal bytes: what the test says, and one byte at a time from the end.
 -- Assumes nothing.
-use mathlib.Core.Path.{_≡_, refl, ap, _∙_}
-use mathlib.Core.Bool.{Bool, true, false, _&&_}
+use mathlib.Core.Path.{_≡_, refl, sym, ap, _∙_}
+use mathlib.Core.Bool.{Bool, true, false, _&&_, false≢true}
 use mathlib.Core.List.{List, [], _∷_, map}
 use Prim.Native.Nat.{ℕ, zero, suc, _+_, _-_, _≤_, _<_}
 use native.Mathlib.Omega.{arith}
@@ -32,6 +32,16 @@ same-false a b h = by (sameBytes a b) refl
     by : (t : Bool) → sameBytes a b ≡ t → sameBytes a b ≡ false
     by true e = absurd (h (same-true a b e))
     by false e = e
+
+pub other-lengths : (a b : List ℕ) → (length a ≡ length b → ⊥) → sameBytes a b ≡ false
+other-lengths a b h = same-false a b (λ e. h (ap length e))
+
+pub same-turned : (a b : List ℕ) → sameBytes a b ≡ sameBytes b a
+same-turned a b = by (sameBytes a b) refl
+  where
+    by : (t : Bool) → sameBytes a b ≡ t → sameBytes a b ≡ sameBytes b a
+    by true e = ap (λ x. sameBytes x b) (same-true a b e) ∙ ap (sameBytes b) (sym (same-true a b e))
+    by false e = e ∙ sym (same-false b a (λ h. false≢true (sym e ∙ ap (sameBytes a) h ∙ same-refl a)))
 
 -- For loops that compare what f makes of each byte; f is the byte itself where bytes are compared exactly.
 

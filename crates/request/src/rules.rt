@@ -9,8 +9,7 @@ ghost use Rattle.http.specs.Fields.{Inside, AllInside, fieldsAt};
 ghost use Rattle.request.specs.Named.{lowered, valuesOf};
 ghost use Rattle.request.specs.Request.{hostRight, statedBy};
 ghost use Rattle.request.specs.Rules.{withField, foundOf, cappedOutcome, statedOutcome, rulesOutcome, judgedOf};
-use crate::stored::field_name;
-use octets::compare::same_letters;
+use crate::stored::has_name;
 use octets::decimal;
 use octets::decimal::Number;
 
@@ -28,7 +27,7 @@ fn with_field(head: &[u8], places: &[u64], k: usize, name: &[u8], seen: Found) -
     requires { ⌜ (4 * k + 4 ≤ length (now places)) × (seen .count ≤ k) × Inside (now head) (now places) k ⌝ }
     ensures { λ r. ⌜ r ≡ withField (now (name .entry)) (now (head .entry)) (now (places .entry)) k seen ⌝ }
 {
-    if !same_letters(field_name(head, places, k), name) {
+    if !has_name(head, places, k, name) {
         return seen;
     }
     if seen.count == 0 {

@@ -20,6 +20,7 @@ use octets::compare::same_letters;
 use octets::compare::upper;
 use request::stored::field_name;
 use request::stored::field_value;
+use request::stored::has_name;
 
 // Whether a name is one of the first four that are not passed.
 fn not_passed_first(name: &[u8]) -> bool
@@ -69,8 +70,7 @@ fn seen_before(head: &[u8], places: &[u64], k: usize, n: usize) -> bool
     let mut j = k;
     while 0 < j {
         j -= 1;
-        let earlier = field_name(head, places, j);
-        if same_letters(name, earlier) {
+        if has_name(head, places, j, name) {
             return true;
         }
     }
@@ -153,8 +153,7 @@ fn put_added(head: &[u8], places: &[u64], j: usize, name: &[u8], out: &mut [u8],
     requires { ⌜ (4 * j + 3 < length (now places)) × Inside (now head) (now places) j × (at ≤ length (now out)) ⌝ }
     ensures { λ r. ⌜ PutDone (now (out .entry)) at (addedAt (now (head .entry)) (now (places .entry)) (map lowerOf (now (name .entry))) j) (now (out .exit)) r ⌝ }
 {
-    let later = field_name(head, places, j);
-    if same_letters(later, name) {
+    if has_name(head, places, j, name) {
         return put_joined(head, places, j, out, at);
     }
     Put::At(at)

@@ -12,11 +12,11 @@ slice-aggregate-store-names c = search needs
 store-names-requires : tie.Need-store-names-requires
 store-names-requires c κs = search needs
 
-slice-aggregate-stored-differ : tie.Need-slice-aggregate-stored-differ
-slice-aggregate-stored-differ c = search needs
+slice-aggregate-many-differ : tie.Need-slice-aggregate-many-differ
+slice-aggregate-many-differ c = search needs
 
-stored-differ-requires : tie.Need-stored-differ-requires
-stored-differ-requires c κs =
+many-differ-requires : tie.Need-many-differ-requires
+many-differ-requires c κs =
     let s = c .before .before in
     let a = s .before .before .before in
     names-held _ _ _ _ _ (s .store-names .ensures) (a .pre .0) (omega (arith, a .pre .1))
@@ -30,6 +30,6 @@ names-differ-spec =
     (tie.spec
     slice-aggregate-store-names
     store-names-requires
-    slice-aggregate-stored-differ
-    stored-differ-requires
+    slice-aggregate-many-differ
+    many-differ-requires
     returns)

@@ -21,6 +21,9 @@ abbrev μ-loop : tie.MeasureT-loop
 loop-holds : tie.Need-loop-holds Inv-loop μ-loop
 loop-holds c = (search needs, known _ _ _ (c .before .before .pre) .answer)
 
+add-repeated : tie.Need-add-repeated Inv-loop μ-loop
+add-repeated c = search needs
+
 repeated-requires : tie.Need-repeated-requires Inv-loop μ-loop
 repeated-requires c κs =
     let s = c .before .before .before .before in
@@ -54,6 +57,7 @@ stored-differ-spec =
     Inv-loop
     μ-loop
     loop-holds
+    add-repeated
     repeated-requires
     returns
     add-k

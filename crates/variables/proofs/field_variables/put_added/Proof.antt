@@ -11,16 +11,13 @@ use mathlib.Core.Path.{_≡_, sym, _∙_}
 
 -- what the comparison says of the two names
 told :
-    (c : tie.After-same-letters)
-    → (let a = c .before .before .before .before .before .before .args in
-    sameBytes (lowName (a .head .now) (a .places .now) (a .j)) (map lowerOf (a .name .now)) ≡ c .same-letters .result)
-told c = sym (c .same-letters .ensures ∙ rw (c .before .field-name .ensures .0))
+    (c : tie.After-has-name)
+    → (let a = c .before .before .before .before .before .args in
+    sameBytes (lowName (a .head .now) (a .places .now) (a .j)) (map lowerOf (a .name .now)) ≡ c .has-name .result)
+told c = sym (c .has-name .ensures)
 
-field-name-requires : tie.Need-field-name-requires
-field-name-requires c κs = search needs
-
-same-letters-requires : tie.Need-same-letters-requires
-same-letters-requires c κs = search needs
+has-name-requires : tie.Need-has-name-requires
+has-name-requires c κs = search needs
 
 put-joined-requires : tie.Need-put-joined-requires
 put-joined-requires c κs = search needs
@@ -32,14 +29,13 @@ returns : tie.Need-returns
 returns c = rw (told (c .before .before .before .before .before) ∙ c .before .before .before .before .if1 .taken) (c .before .before .put-joined .ensures)
 
 returns-2 : tie.Need-returns-2
-returns-2 c = rw (told (c .before) ∙ c .if1 .left) (put-none _ _ (c .before .before .before .before .before .before .before .pre .2))
+returns-2 c = rw (told (c .before) ∙ c .if1 .left) (put-none _ _ (c .before .before .before .before .before .before .pre .2))
 
 pub put-added-spec : {M : Type 1} → statement M
 put-added-spec =
     tie.close
     (tie.spec
-    field-name-requires
-    same-letters-requires
+    has-name-requires
     put-joined-requires
     same-length
     returns

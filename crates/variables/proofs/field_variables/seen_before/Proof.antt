@@ -7,6 +7,7 @@ use Rattle.variables.proofs.field_variables.seen_before.Tie as tie
 use Rattle.variables.specs.FieldVariables.{lowName, namesBefore}
 use Rattle.octets.specs.Compare.{sameBytes}
 use Rattle.octets.specs.Lists.{isIn}
+use Rattle.octets.proofs.Compares.{same-turned}
 use borrow.Author.Needs.{needs}
 use mathlib.Core.Path.{_≡_, refl, sym, _∙_}
 use native.Mathlib.Omega.{arith}
@@ -19,11 +20,11 @@ abbrev μ-loop : tie.MeasureT-loop
 
 -- what the comparison says of the two names
 seen :
-    (c : tie.After-same-letters Inv-loop μ-loop)
-    → (let l = c .before .before .before in
+    (c : tie.After-has-name Inv-loop μ-loop)
+    → (let l = c .before .before in
     let a = l .before .before .before .before .args in
-    sameBytes (lowName (a .head .now) (a .places .now) (a .k)) (lowName (a .head .now) (a .places .now) (l .loop .j - 1)) ≡ c .same-letters .result)
-seen c = sym (c .same-letters .ensures ∙ rw (c .before .before .before .before .field-name .ensures .0, c .before .field-name2 .ensures .0))
+    sameBytes (lowName (a .head .now) (a .places .now) (a .k)) (lowName (a .head .now) (a .places .now) (l .loop .j - 1)) ≡ c .has-name .result)
+seen c = same-turned _ _ ∙ sym (c .has-name .ensures ∙ rw (c .before .before .before .field-name .ensures .0))
 
 field-name-requires : tie.Need-field-name-requires Inv-loop μ-loop
 field-name-requires c κs =
@@ -36,22 +37,23 @@ loop-holds c = (search needs, refl)
 sub-j : tie.Need-sub-j Inv-loop μ-loop
 sub-j c = search needs
 
-field-name-requires-2 : tie.Need-field-name-requires-2 Inv-loop μ-loop
-field-name-requires-2 c κs =
+has-name-requires : tie.Need-has-name-requires Inv-loop μ-loop
+has-name-requires c κs =
     let s = c .before .before .before .before .before in
     (omega (arith, s .pre .0, s .pre .1), s .pre .2 _ (omega (arith, s .pre .0)))
 
-same-letters-requires : tie.Need-same-letters-requires Inv-loop μ-loop
-same-letters-requires c κs = search needs
-
 returns : tie.Need-returns Inv-loop μ-loop
-returns c = sym (c .before .before .before .before .loop .inv .1 ∙ seen-next _ _ _ _ (c .before .before .before .loop-test .taken) ∙ rw (seen (c .before) ∙ c .if1 .taken))
+returns c =
+    let t = c .before .before in
+    sym (t .before .loop .inv .1 ∙ seen-next _ _ _ _ (t .loop-test .taken) ∙ rw (seen (c .before) ∙ c .if1 .taken))
 
 loop-less : tie.Need-loop-less Inv-loop μ-loop
 loop-less c = omega arith
 
 loop-again : tie.Need-loop-again Inv-loop μ-loop
-loop-again c = (omega arith, c .before .before .before .before .loop .inv .1 ∙ seen-next _ _ _ _ (c .before .before .before .loop-test .taken) ∙ rw (seen (c .before) ∙ c .if1 .left))
+loop-again c =
+    let t = c .before .before in
+    (omega arith, t .before .loop .inv .1 ∙ seen-next _ _ _ _ (t .loop-test .taken) ∙ rw (seen (c .before) ∙ c .if1 .left))
 
 returns-2 : tie.Need-returns-2 Inv-loop μ-loop
 returns-2 c = sym (c .before .loop .inv .1 ∙ seen-end _ _ _ _ (omega arith))
@@ -65,8 +67,7 @@ seen-before-spec =
     field-name-requires
     loop-holds
     sub-j
-    field-name-requires-2
-    same-letters-requires
+    has-name-requires
     returns
     loop-less
     loop-again
