@@ -3,14 +3,15 @@ ghost use mathlib.Core.Path.{_≡_};
 ghost use mathlib.Core.Bool.{true};
 ghost use Rattle.octets.specs.Outcome.{gives, then, refusalOf};
 ghost use Rattle.octets.specs.Lists.{different};
+ghost use Rattle.headers.specs.Names.{NamesIn};
 ghost use Rattle.headers.specs.Block.{parsed, wellFormed, countOf, names};
 ghost use Rattle.scgi.specs.Check.{statedOutcome, statedIn, hasScgi, checkedOutcome, restOf, checkBlock};
 use headers::block::Count;
 use headers::block::HeaderPlace;
 use headers::block::header_at;
 use headers::lookup::Place;
-use headers::lookup::seek;
-use headers::names::names_differ;
+use headers::lookup::seek_by;
+use headers::names::many_differ;
 use headers::names::store_names;
 use headers::names::stored_differ;
 use octets::compare::same;
@@ -64,12 +65,12 @@ fn stated_length(block: &[u8]) -> Stated
     Stated::Length(n)
 }
 
-// Whether a well formed block, no two names of which are equal, has the header SCGI with the value 1.
-fn has_scgi(block: &[u8]) -> bool
-    requires { ⌜ then (parsed (now block)) (λ hs. gives (different (names hs))) ≡ gives true ⌝ }
+// Whether a block of n headers, whose names' places were stored and differ, has the header SCGI with the value 1.
+fn has_scgi(block: &[u8], places: &[usize], n: usize) -> bool
+    requires { ⌜ NamesIn (now block) (now places) n × (then (parsed (now block)) (λ hs. gives (different (names hs))) ≡ gives true) ⌝ }
     ensures { λ r. ⌜ hasScgi (now (block .entry)) ≡ gives r ⌝ }
 {
-    let p = seek(block, b"SCGI");
+    let p = seek_by(block, places, n, b"SCGI");
     let Place::At { start, len } = p else {
         return false;
     };
@@ -94,9 +95,9 @@ impl Checked {
     }
 }
 
-// What is asked of a well formed block, no two names of which are equal, after its names.
-fn check_rest(block: &[u8]) -> Checked
-    requires { ⌜ then (parsed (now block)) (λ hs. gives (different (names hs))) ≡ gives true ⌝ }
+// What is asked of such a block after its names.
+fn check_rest(block: &[u8], places: &[usize], n: usize) -> Checked
+    requires { ⌜ NamesIn (now block) (now places) n × (then (parsed (now block)) (λ hs. gives (different (names hs))) ≡ gives true) ⌝ }
     ensures { λ r. ⌜ checkedOutcome r ≡ restOf (now (block .entry)) ⌝ }
 {
     let l = stated_length(block);
@@ -106,7 +107,7 @@ fn check_rest(block: &[u8]) -> Checked
     if 1048576 < len {
         return Checked::Refused(9);
     }
-    if !has_scgi(block) {
+    if !has_scgi(block, places, n) {
         return Checked::Refused(10);
     }
     Checked::Body(len as usize)
@@ -121,10 +122,12 @@ fn check_large(block: &[u8], n: usize) -> Checked
     if 128 < n {
         return Checked::Refused(6);
     }
-    if !names_differ(block, n) {
+    let mut places = [0usize; 256];
+    store_names(block, &mut places);
+    if !many_differ(block, &places, n) {
         return Checked::Refused(7);
     }
-    check_rest(block)
+    check_rest(block, &places, n)
 }
 
 // Whether a block is that of a request. It is walked for the count of its headers and, of the at most 32 that most have, for their names.
@@ -142,5 +145,5 @@ pub fn check_block(block: &[u8]) -> Checked
     if !stored_differ(block, &few, n) {
         return Checked::Refused(7);
     }
-    check_rest(block)
+    check_rest(block, &few, n)
 }

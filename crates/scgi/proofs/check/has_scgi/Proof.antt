@@ -10,21 +10,21 @@ use Rattle.octets.specs.Outcome.{gives}
 use Rattle.octets.specs.Text.{bytes}
 use Rattle.headers.proofs.Claims.{places-inside}
 use Rattle.headers.specs.Lookup.{placeOption, lookupOf}
-use Rattle.scgi.proofs.CheckSteps.{differ-well, scgi-at}
+use Rattle.scgi.proofs.CheckSteps.{scgi-at}
 use Rattle.scgi.proofs.check.has_scgi.Statement.{statement}
 use Rattle.scgi.proofs.check.has_scgi.Tie as tie
 
 -- the place, where the pattern matched
 got :
     (c : tie.After-known-told)
-    → lookupOf (c .before .before .before .before .before .before .args .block .now) (bytes "SCGI") ≡ gives (some (record { start = c .before .p .given .0 .0; len = c .before .p .given .0 .1 .0 }))
-got c = sym (c .before .before .before .seek .ensures) ∙ ap (λ p. gives (placeOption p)) (c .before .p .given .1)
+    → lookupOf (c .before .before .before .before .before .before .before .args .block .now) (bytes "SCGI") ≡ gives (some (record { start = c .before .p .given .0 .0; len = c .before .p .given .0 .1 .0 }))
+got c = sym (c .before .before .before .seek-by .ensures) ∙ ap (λ p. gives (placeOption p)) (c .before .p .given .1)
 
-slice-aggregate-seek : tie.Need-slice-aggregate-seek
-slice-aggregate-seek c = search needs
+slice-aggregate-seek-by : tie.Need-slice-aggregate-seek-by
+slice-aggregate-seek-by c = search needs
 
-seek-requires : tie.Need-seek-requires
-seek-requires c κs = differ-well _ (c .before .before .pre)
+seek-by-requires : tie.Need-seek-by-requires
+seek-by-requires c κs = c .before .before .before .pre .0
 
 enum-known-p : tie.Need-enum-known-p
 enum-known-p c = search needs
@@ -34,8 +34,8 @@ enum-told c = search needs
 
 returns : tie.Need-returns
 returns c =
-    let s = c .before .before .before .before .before in
-    scgi-at (s .args .block .now) (s .pre) _ (sym (c .before .before .seek .ensures) ∙ ap (λ p. gives (placeOption p)) (c .enum-told .given .1))
+    let s = c .before .before .before .before .before .before in
+    scgi-at (s .args .block .now) (s .pre .1) _ (sym (c .before .before .seek-by .ensures) ∙ ap (λ p. gives (placeOption p)) (c .enum-told .given .1))
 
 add-same : tie.Need-add-same
 add-same c = omega (arith, places-inside .of-one _ _ _ (got c))
@@ -57,16 +57,16 @@ same-requires c κs = search needs
 
 returns-2 : tie.Need-returns-2
 returns-2 c =
-    let s = c .before .before .before .before .before .before .before .before .before in
+    let s = c .before .before .before .before .before .before .before .before .before .before in
     let p = c .before .before .before .before .p .given .0 in
-    scgi-at (s .args .block .now) (s .pre) _ (got (c .before .before .before)) ∙ ap gives (ap (λ w. sameBytes w (bytes "1")) (sym (part (s .args .block .now) (p .0) (p .1 .0))) ∙ sym (c .same .ensures))
+    scgi-at (s .args .block .now) (s .pre .1) _ (got (c .before .before .before)) ∙ ap gives (ap (λ w. sameBytes w (bytes "1")) (sym (part (s .args .block .now) (p .0) (p .1 .0))) ∙ sym (c .same .ensures))
 
 pub has-scgi-spec : {M : Type 1} → statement M
 has-scgi-spec =
     tie.close
     (tie.spec
-    slice-aggregate-seek
-    seek-requires
+    slice-aggregate-seek-by
+    seek-by-requires
     enum-known-p
     enum-told
     returns
