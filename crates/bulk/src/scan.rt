@@ -75,25 +75,17 @@ pub fn find_far(s: &[u8], from: usize, b: u8) -> usize
     find(s, i, b)
 }
 
-// The same for a byte that may be near: four bytes one by one, and then sixteen at once.
+// The same for a byte that may be near: of sixteen bytes by `find`, and then by sixteen at once.
 pub fn find_soon(s: &[u8], from: usize, b: u8) -> usize
     requires { ⌜ from ≤ length (now s) ⌝ }
     ensures { λ r. ⌜ r ≡ from + run (other b) (drop from (now (s .entry))) ⌝ }
 {
-    if s.len() - from < 4 {
+    if s.len() - from < 16 {
         return find(s, from, b);
     }
-    if s[from] == b {
-        return from;
+    let k = find(&s[from..from + 16], 0, b);
+    if k < 16 {
+        return from + k;
     }
-    if s[from + 1] == b {
-        return from + 1;
-    }
-    if s[from + 2] == b {
-        return from + 2;
-    }
-    if s[from + 3] == b {
-        return from + 3;
-    }
-    find_far(s, from + 4, b)
+    find_far(s, from + 16, b)
 }

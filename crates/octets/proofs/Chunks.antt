@@ -1,7 +1,7 @@
 -- Laws of chunks: n bytes from a place on that a loop tests one after the other, with no way out before the last.
 -- Assumes nothing.
 use mathlib.Core.Path.{_≡_, refl, sym, ap, _∙_}
-use mathlib.Core.Bool.{Bool, true, false, not, _&&_, _||_, Bool·beq}
+use mathlib.Core.Bool.{Bool, true, false, cond, not, _&&_, _||_, Bool·beq}
 use mathlib.Core.List.{List, [], _∷_}
 use Prim.Native.Nat.{ℕ, zero, suc, _+_, _-_, _≤_, _<_}
 use native.Mathlib.Omega.{arith}
@@ -114,6 +114,19 @@ run-skip p [] (suc n) h e = absurd (omega arith)
 run-skip p (b ∷ s) (suc n) h e =
     rw (and-left (p b) (allOf p (take n s)) e)
     (omega (arith, run-skip p s n (omega arith) (and-right (p b) (allOf p (take n s)) e)))
+
+-- a run that ends within the first n bytes is that of these bytes
+pub run-front : (p : ℕ → Bool) (s : List ℕ) (n : ℕ) → run p (take n s) < n → run p s ≡ run p (take n s)
+unfolding run
+run-front p s zero e = absurd (omega arith)
+run-front p [] (suc n) e = refl
+run-front p (b ∷ s) (suc n) e = by (p b) (run-front p s n) e
+  where
+    by :
+        (t : Bool) → (run p (take n s) < n → run p s ≡ run p (take n s)) → cond t (suc (run p (take n s))) 0 < suc n
+        → cond t (suc (run p s)) 0 ≡ cond t (suc (run p (take n s))) 0
+    by true f e = ap suc (f (omega arith))
+    by false f e = refl
 
 -- the same from a place on
 pub run-chunk :

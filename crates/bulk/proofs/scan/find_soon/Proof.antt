@@ -1,14 +1,27 @@
 -- `bulk::scan::find_soon` meets its contract.
 -- Assumes nothing.
-use mathlib.Core.Path.{refl, ap}
-use mathlib.Core.Bool.{not}
+use mathlib.Core.Path.{_≡_, ap, _∙_}
+use mathlib.Core.Bool.{true}
+use Prim.Native.Nat.{_≤_}
+use native.Mathlib.Nat.{zero-add}
 use native.Mathlib.Omega.{arith}
+use lib.ListN.{length, take, drop, length-take}
 use borrow.Author.Needs.{needs}
-use borrow.Author.Tests.{eq-eqb, ne-eqb}
-use Rattle.octets.specs.Scan.{other}
-use Rattle.octets.proofs.Scans.{run-four}
+use borrow.Author.Tests.{le-leb}
+use Rattle.octets.specs.Scan.{run, allOf, other}
+use Rattle.octets.proofs.Lists.{part}
+use Rattle.octets.proofs.Scans.{all-run}
+use Rattle.octets.proofs.Chunks.{run-front, run-chunk}
 use Rattle.bulk.proofs.scan.find_soon.Statement.{statement}
 use Rattle.bulk.proofs.scan.find_soon.Tie as tie
+
+-- where it stands among the first sixteen bytes
+near :
+    (c : tie.After-find2)
+    → c .find2 .result ≡ run (other (c .before .before .before .before .args .b)) (take 16 (drop (c .before .before .before .before .args .from) (c .before .before .before .before .args .s .now)))
+near c =
+    let a = c .before .before .before .before .args in
+    c .find2 .ensures ∙ zero-add _ ∙ ap (run (other (a .b))) (part (a .s .now) (a .from) 16)
 
 sub-if1 : tie.Need-sub-if1
 sub-if1 c = search needs
@@ -19,61 +32,29 @@ find-requires c κs = search needs
 returns : tie.Need-returns
 returns c = search needs
 
-shared-slice-read-if2 : tie.Need-shared-slice-read-if2
-shared-slice-read-if2 c = search needs
+add-find : tie.Need-add-find
+add-find c = search needs
 
-returns-2 : tie.Need-returns-2
-returns-2 c =
-    let a = c .before .before .before .before .args in
-    omega (arith, run-four (other (a .b)) (a .s .now) (a .from) (omega (arith, c .before .before .if1 .left)) (ap not (eq-eqb _ _ (c .if2 .taken))) refl refl refl)
+sub-find : tie.Need-sub-find
+sub-find c = search needs
 
-add-if3 : tie.Need-add-if3
-add-if3 c = search needs
+part-find-start : tie.Need-part-find-start
+part-find-start c = search needs
 
-shared-slice-read-if3 : tie.Need-shared-slice-read-if3
-shared-slice-read-if3 c = search needs
+part-find-end : tie.Need-part-find-end
+part-find-end c = search needs
+
+find-requires-2 : tie.Need-find-requires-2
+find-requires-2 c κs = search needs
 
 add-result : tie.Need-add-result
 add-result c = search needs
 
-returns-3 : tie.Need-returns-3
-returns-3 c =
-    let c₁ = c .before .before in
-    let a = c₁ .before .before .before .before .args in
-    omega (arith, run-four (other (a .b)) (a .s .now) (a .from) (omega (arith, c₁ .before .before .if1 .left)) (ap not (ne-eqb _ _ (c₁ .if2 .left))) (ap not (eq-eqb _ _ (c .if3 .taken))) refl refl)
-
-add-if4 : tie.Need-add-if4
-add-if4 c = search needs
-
-shared-slice-read-if4 : tie.Need-shared-slice-read-if4
-shared-slice-read-if4 c = search needs
-
-add-result-2 : tie.Need-add-result-2
-add-result-2 c = search needs
-
-returns-4 : tie.Need-returns-4
-returns-4 c =
-    let c₂ = c .before .before in
-    let c₁ = c₂ .before .before in
-    let a = c₁ .before .before .before .before .args in
-    omega (arith, run-four (other (a .b)) (a .s .now) (a .from) (omega (arith, c₁ .before .before .if1 .left)) (ap not (ne-eqb _ _ (c₁ .if2 .left))) (ap not (ne-eqb _ _ (c₂ .if3 .left))) (ap not (eq-eqb _ _ (c .if4 .taken))) refl)
-
-add-if5 : tie.Need-add-if5
-add-if5 c = search needs
-
-shared-slice-read-if5 : tie.Need-shared-slice-read-if5
-shared-slice-read-if5 c = search needs
-
-add-result-3 : tie.Need-add-result-3
-add-result-3 c = search needs
-
-returns-5 : tie.Need-returns-5
-returns-5 c =
-    let c₃ = c .before .before in
-    let c₂ = c₃ .before .before in
-    let c₁ = c₂ .before .before in
-    let a = c₁ .before .before .before .before .args in
-    omega (arith, run-four (other (a .b)) (a .s .now) (a .from) (omega (arith, c₁ .before .before .if1 .left)) (ap not (ne-eqb _ _ (c₁ .if2 .left))) (ap not (ne-eqb _ _ (c₂ .if3 .left))) (ap not (ne-eqb _ _ (c₃ .if4 .left))) (ap not (eq-eqb _ _ (c .if5 .taken))))
+returns-2 : tie.Need-returns-2
+returns-2 c =
+    let f = c .before in
+    let a = f .before .before .before .before .args in
+    omega (arith, near f, run-front (other (a .b)) (drop (a .from) (a .s .now)) 16 (omega (arith, near f, c .if2 .taken)))
 
 add-find-far : tie.Need-add-find-far
 add-find-far c = search needs
@@ -81,14 +62,14 @@ add-find-far c = search needs
 find-far-requires : tie.Need-find-far-requires
 find-far-requires c κs = search needs
 
-returns-6 : tie.Need-returns-6
-returns-6 c =
-    let c₄ = c .before in
-    let c₃ = c₄ .before .before in
-    let c₂ = c₃ .before .before in
-    let c₁ = c₂ .before .before in
-    let a = c₁ .before .before .before .before .args in
-    omega (arith, c .find-far .ensures, run-four (other (a .b)) (a .s .now) (a .from) (omega (arith, c₁ .before .before .if1 .left)) (ap not (ne-eqb _ _ (c₁ .if2 .left))) (ap not (ne-eqb _ _ (c₂ .if3 .left))) (ap not (ne-eqb _ _ (c₃ .if4 .left))) (ap not (ne-eqb _ _ (c₄ .if5 .left))))
+returns-3 : tie.Need-returns-3
+returns-3 c =
+    let f = c .before .before in
+    let a = f .before .before .before .before .args in
+    let t = drop (a .from) (a .s .now) in
+    let few : length (take 16 t) ≤ run (other (a .b)) (take 16 t) = simp length-take (omega (arith, near f, c .before .if2 .left)) in
+    let pass : allOf (other (a .b)) (take 16 t) ≡ true = all-run (other (a .b)) (take 16 t) ∙ le-leb _ _ few in
+    omega (arith, c .find-far .ensures, run-chunk (other (a .b)) (a .s .now) (a .from) 16 (omega (arith, f .before .before .if1 .left)) pass)
 
 pub find-soon-spec : {M : Type 1} → statement M
 find-soon-spec =
@@ -97,20 +78,13 @@ find-soon-spec =
     sub-if1
     find-requires
     returns
-    shared-slice-read-if2
-    returns-2
-    add-if3
-    shared-slice-read-if3
+    add-find
+    sub-find
+    part-find-start
+    part-find-end
+    find-requires-2
     add-result
-    returns-3
-    add-if4
-    shared-slice-read-if4
-    add-result-2
-    returns-4
-    add-if5
-    shared-slice-read-if5
-    add-result-3
-    returns-5
+    returns-2
     add-find-far
     find-far-requires
-    returns-6)
+    returns-3)
