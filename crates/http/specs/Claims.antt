@@ -54,7 +54,7 @@ pub record FirstLineStands : Type 0 where
 
 -- THE REQUEST LINE
 
--- "method, space, target, space, version, with exactly two spaces in it"; no part of it has a NUL but perhaps the target, which has rules of its own
+-- "method, space, target, space, version, with exactly two spaces in it"; method and version have no NUL, which would end a variable's value
 pub record Reads (line : List ℕ) (f : FirstLine) : Type 0 where
   pub parts : line ≡ f .method ++ (32 ∷ (f .target ++ (32 ∷ f .version)))
   pub method : isMethod (f .method) ≡ true
@@ -110,7 +110,9 @@ pub record FieldsStand (rule : ℕ → Bool) (head places : List ℕ) (n : ℕ) 
   pub few : n ≤ 64
 
 pub record FieldsTold : Type 0 where
-  pub accepts : (rule : ℕ → Bool) (head before after : List ℕ) (n : ℕ) → Stored rule head before after (Count n) → FieldsStand rule head after n
+  pub accepts :
+      (rule : ℕ → Bool) (head before after : List ℕ) (n : ℕ) → Stored rule head before after (Count n)
+      → FieldsStand rule head after n
   pub refuses :
       (rule : ℕ → Bool) (head before after : List ℕ) (k : ℕ) → Stored rule head before after (FieldsRefused k)
       → refused k ≡ fieldsOf rule (linesOf head .others)

@@ -99,7 +99,8 @@ placeIf (some f) at line = At (nameLength line) (at + valueStart line) (valueLen
 abbrev pub placeOf : (ℕ → Bool) → List ℕ → ℕ → FieldPlace
 placeOf rule head at = let line = linesOf (drop at head) .first in placeIf (fieldOf rule line) at line
 
--- four numbers for each line, of which the first starts at a place: the start and length of its name and of its value. A line ends in CR LF.
+-- four numbers for each line, of which the first starts at a place: the start and length of its name and of its value. Two bytes, CR LF,
+-- stand between a line and the next
 unfoldable pub placesFrom : ℕ → List (List ℕ) → List ℕ
 placesFrom at [] = []
 placesFrom at (l ∷ ls) = at ∷ (nameLength l ∷ ((at + valueStart l) ∷ (valueLength l ∷ placesFrom (at + length l + 2) ls)))

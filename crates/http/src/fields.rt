@@ -23,7 +23,7 @@ pub enum FieldLine {
     Malformed,
 }
 
-// The field of a line, which is given without its end; the bytes of its name are of the kind.
+// Where the field of a line stands in it, which is given without its end; the bytes of the field's name are of the kind.
 pub fn field_line(kinds: &[u8; 256], kind: Kind, line: &[u8]) -> FieldLine
     requires { ⌜ now kinds ≡ table ⌝ }
     ensures { λ r. ⌜ lineOption r ≡ numbersOf (rule kind) (now (line .entry)) ⌝ }
@@ -61,8 +61,8 @@ enum FieldPlace {
     Malformed,
 }
 
-// The field of the line that begins at start, in one pass: neither a colon nor a CR is a byte of a name, nor a CR one of a value, so that the
-// runs of such bytes end where the name and the line do.
+// The field of the line that begins at start, in one pass: neither a colon nor a CR is a byte of a name, nor a CR one of a value, so that
+// the runs of such bytes end where the name and the line do.
 fn field_at(kinds: &[u8; 256], head: &[u8], start: usize) -> FieldPlace
     requires { ⌜ (now kinds ≡ table) × (start ≤ length (now head)) ⌝ }
     ensures { λ r. ⌜ r ≡ placeOf isName (now (head .entry)) start ⌝ }

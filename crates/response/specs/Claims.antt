@@ -127,9 +127,9 @@ settledOf s =
       bodyStart = a .bodyStart;
     }))
 
--- "The input is the script's whole output", and yet its first 8,193 bytes settle the refusal, the action, the status, the Location and where
--- the body starts, so that a server need not hold a whole document. The head lies in the first 8,192; "no body" needs one byte more, for a
--- body that starts behind them.
+-- "The input is the script's whole output", and yet its first 8,193 bytes settle the refusal, the action, the status, the Location and
+-- where the body starts, so that a server need not hold a whole document. The head lies in the first 8,192; "no body" needs one byte more,
+-- for a body that starts behind them.
 abbrev pub settling : ℕ
 settling = 8193
 

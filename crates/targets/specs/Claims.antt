@@ -41,8 +41,8 @@ pub record Accepted (t : List ℕ) (x : Target) : Type 0 where
 abbrev pub TargetsObey : Type 0
 TargetsObey = (t : List ℕ) (x : Target) → targetOf t ≡ gives x → Accepted t x
 
--- the answer tells k bytes of path and n bytes decoded of the target t, and d is the buffer that it leaves: the path is the first k bytes of t,
--- decoded it is the first n of d, and the query is what stands behind the path and its `?`
+-- the answer tells k bytes of path and n bytes decoded of the target t, and d is the buffer that it leaves: the path is the first k bytes
+-- of t, decoded it is the first n of d, and the query is what stands behind the path and its `?`
 pub record Told (t d : List ℕ) (k n : ℕ) : Type 0 where
   pub answer : gives (record { path = take n d; query = drop (k + 1) t }) ≡ targetOf t
   pub path-length : k ≡ length (pathOf t)

@@ -12,10 +12,16 @@ use Rattle.http.proofs.fields.field_at.Tie as tie
 
 -- the value lies within the head
 begins : (c : tie.After-blank-end) → c .blank-end .result ≤ c .before .before .before .run-end2 .result
-begins c = begins-in _ _ _ (c .before .before .before .before .before .before .before .before .before .before .pre .1) (c .before .before .before .before .before .before .before .before .run-end .ensures) (c .before .before .before .before .before .before .before .if1 .left) (c .before .before .before .before .before .if2 .left) (c .before .before .before .before .if3 .left) _ (c .before .before .before .run-end2 .ensures) (sym (c .before .before .is-line-end .ensures) ∙ not-false _ (c .before .if4 .left)) _ (c .blank-end .ensures)
+begins c =
+    let d = c .before .before .before in
+    let f = d .before .before .before .before in
+    begins-in _ _ _ (f .before .before .before .pre .1) (f .before .run-end .ensures) (f .if1 .left) (d .before .before .if2 .left) (d .before .if3 .left) _ (d .run-end2 .ensures) (sym (c .before .before .is-line-end .ensures) ∙ not-false _ (c .before .if4 .left)) _ (c .blank-end .ensures)
 
 ends : (c : tie.After-blank-end) → c .before .before .before .run-end2 .result ≤ length (c .before .before .before .before .before .before .before .before .before .before .args .head .now)
-ends c = ends-in _ _ _ (c .before .before .before .before .before .before .before .before .before .before .pre .1) (c .before .before .before .before .before .before .before .before .run-end .ensures) (c .before .before .before .before .before .before .before .if1 .left) (c .before .before .before .before .before .if2 .left) (c .before .before .before .before .if3 .left) _ (c .before .before .before .run-end2 .ensures) (sym (c .before .before .is-line-end .ensures) ∙ not-false _ (c .before .if4 .left)) _ (c .blank-end .ensures)
+ends c =
+    let d = c .before .before .before in
+    let f = d .before .before .before .before in
+    ends-in _ _ _ (f .before .before .before .pre .1) (f .before .run-end .ensures) (f .if1 .left) (d .before .before .if2 .left) (d .before .if3 .left) _ (d .run-end2 .ensures) (sym (c .before .before .is-line-end .ensures) ∙ not-false _ (c .before .if4 .left)) _ (c .blank-end .ensures)
 
 run-end-requires : tie.Need-run-end-requires
 run-end-requires c κs = search needs
@@ -42,7 +48,10 @@ is-line-end-requires : tie.Need-is-line-end-requires
 is-line-end-requires c κs = search needs
 
 returns-4 : tie.Need-returns-4
-returns-4 c = valueless _ _ _ (c .before .before .before .before .before .before .before .before .before .pre .1) (c .before .before .before .before .before .before .before .run-end .ensures) (c .before .before .before .before .before .before .if1 .left) (c .before .before .before .before .if2 .left) (c .before .before .before .if3 .left) _ (c .before .before .run-end2 .ensures) (sym (c .before .is-line-end .ensures) ∙ not-true _ (c .if4 .taken))
+returns-4 c =
+    let d = c .before .before in
+    let f = d .before .before .before .before in
+    valueless _ _ _ (f .before .before .before .pre .1) (f .before .run-end .ensures) (f .if1 .left) (d .before .before .if2 .left) (d .before .if3 .left) _ (d .run-end2 .ensures) (sym (c .before .is-line-end .ensures) ∙ not-true _ (c .if4 .taken))
 
 add-blank-end : tie.Need-add-blank-end
 add-blank-end c = search needs
@@ -66,7 +75,10 @@ kept-len-requires : tie.Need-kept-len-requires
 kept-len-requires c κs = search needs
 
 returns-5 : tie.Need-returns-5
-returns-5 c = stands _ _ _ (c .before .before .before .before .before .before .before .before .before .before .before .before .pre .1) (c .before .before .before .before .before .before .before .before .before .before .run-end .ensures) (c .before .before .before .before .before .before .before .before .before .if1 .left) (c .before .before .before .before .before .before .before .if2 .left) (c .before .before .before .before .before .before .if3 .left) _ (c .before .before .before .before .before .run-end2 .ensures) (sym (c .before .before .before .before .is-line-end .ensures) ∙ not-false _ (c .before .before .before .if4 .left)) _ (c .before .before .blank-end .ensures) _ (c .kept-len .ensures)
+returns-5 c =
+    let d = c .before .before .before .before .before in
+    let f = d .before .before .before .before in
+    stands _ _ _ (f .before .before .before .pre .1) (f .before .run-end .ensures) (f .if1 .left) (d .before .before .if2 .left) (d .before .if3 .left) _ (d .run-end2 .ensures) (sym (c .before .before .before .before .is-line-end .ensures) ∙ not-false _ (c .before .before .before .if4 .left)) _ (c .before .before .blank-end .ensures) _ (c .kept-len .ensures)
 
 pub field-at-spec : {M : Type 1} → statement M
 field-at-spec =

@@ -65,7 +65,9 @@ returns-4 c =
 
 returns-5 : tie.Need-returns-5
 returns-5 c =
-    sym (whole _ _ _ (c .before .before .before .before .before .before .before .before .find .ensures) (c .before .before .before .before .before .before .before .if1 .left) _ _ (c .before .before .before .blank-end .ensures) (c .before .before .kept-len .ensures) (c .before .before .before .before .before .before .if2 .left) (omega (arith, c .before .before .before .before .before .run-end .ensures, c .before .before .before .before .if3 .left)) (omega (arith, c .before .run-end2 .ensures, c .if4 .left)))
+    let d = c .before .before .before in
+    let f = d .before .before .before in
+    sym (whole _ _ _ (f .before .before .find .ensures) (f .before .if1 .left) _ _ (d .blank-end .ensures) (c .before .before .kept-len .ensures) (f .if2 .left) (omega (arith, d .before .before .run-end .ensures, d .before .if3 .left)) (omega (arith, c .before .run-end2 .ensures, c .if4 .left)))
 
 pub field-line-spec : {M : Type 1} → statement M
 field-line-spec =

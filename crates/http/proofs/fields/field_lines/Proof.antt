@@ -64,11 +64,20 @@ begins : (c : tie.Else1 Inv-loop μ-loop) → c .before .before .loop .end + 2 �
 begins c = ends-inside (c .before .before .before .before .before .args .head .now) (c .before .before .loop .end) (c .before .before .loop .inv .2 (c .before .loop-test .taken))
 
 -- the field of a line, and its places in the head
-stands : (c : tie.After-known-told Inv-loop μ-loop) → Placed (c .before .before .before .before .before .before .loop .end + 2) (linesOf (drop (c .before .before .before .before .before .before .loop .end + 2) (c .before .before .before .before .before .before .before .before .before .args .head .now)) .first) (c .before .l .given .0 .0) (c .before .l .given .0 .1 .0) (c .before .l .given .0 .1 .1 .0) (c .before .l .given .0 .1 .1 .1 .0)
+stands :
+    (c : tie.After-known-told Inv-loop μ-loop)
+    → (let h = c .before .before .before .before .before .before .before .before .before .args .head .now in
+    let i = c .before .before .before .before .before .before .loop .end + 2 in
+    let g = c .before .l .given .0 in
+    Placed i (linesOf (drop i h) .first) (g .0) (g .1 .0) (g .1 .1 .0) (g .1 .1 .1 .0))
 stands c = placed _ _ _ _ _ _ _ (c .before .l .given .1) (c .before .before .before .field-at .ensures)
 
 -- .. and where the line ends
-ends : (c : tie.After-known-told Inv-loop μ-loop) → (let h = c .before .before .before .before .before .before .before .before .before .args .head .now in let i = c .before .before .before .before .before .before .loop .end + 2 in c .before .l .given .0 .1 .1 .1 .0 ≡ i + lineRun (drop i h))
+ends :
+    (c : tie.After-known-told Inv-loop μ-loop)
+    → (let h = c .before .before .before .before .before .before .before .before .before .args .head .now in
+    let i = c .before .before .before .before .before .before .loop .end + 2 in
+    c .before .l .given .0 .1 .1 .1 .0 ≡ i + lineRun (drop i h))
 ends c =
     let h = c .before .before .before .before .before .before .before .before .before .args .head .now in
     let i = c .before .before .before .before .before .before .loop .end + 2 in

@@ -47,8 +47,10 @@ is-kind-requires-2 c κs = search needs
 
 returns-5 : tie.Need-returns-5
 returns-5 c =
+    let d = c .before .before .before .before in
+    let f = d .before .before .before in
     c .is-kind2 .ensures
-    ∙ sym (last-digit _ (c .before .before .before .before .before .before .before .before .before .before .before .if1 .left) (sym (c .before .before .before .before .before .before .before .before .same .ensures) ∙ not-false _ (c .before .before .before .before .before .before .before .if2 .left)) (sym (c .before .before .before .before .before .is-kind .ensures) ∙ not-false _ (c .before .before .before .before .if3 .left)) (c .before .before .if4 .left))
+    ∙ sym (last-digit _ (f .before .before .before .before .if1 .left) (sym (f .before .same .ensures) ∙ not-false _ (f .if2 .left)) (sym (d .before .is-kind .ensures) ∙ not-false _ (d .if3 .left)) (c .before .before .if4 .left))
 
 pub is-version-spec : {M : Type 1} → statement M
 is-version-spec =

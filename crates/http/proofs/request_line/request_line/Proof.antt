@@ -99,7 +99,8 @@ returns-6 : tie.Need-returns-6
 returns-6 c =
     let d = c .before .before .before in
     let f = d .before .before .before .before .before .before in
-    sym (whole _ _ (f .before .before .before .before .find .ensures) (f .before .before .before .if1 .left) _ (f .before .before .find2 .ensures) (f .before .if2 .left) _ (f .find3 .ensures) (d .before .before .before .before .before .if3 .left) (sym (d .before .before .before .is-method .ensures) ∙ not-false _ (d .before .before .if4 .left)) _ (version-is d ∙ ap versionOutcome (c .before .v .given .1)))
+    let m = sym (d .before .before .before .is-method .ensures) ∙ not-false _ (d .before .before .if4 .left) in
+    sym (whole _ _ (f .before .before .before .before .find .ensures) (f .before .before .before .if1 .left) _ (f .before .before .find2 .ensures) (f .before .if2 .left) _ (f .find3 .ensures) (d .before .before .before .before .before .if3 .left) m _ (version-is d ∙ ap versionOutcome (c .before .v .given .1)))
 
 pub request-line-spec : {M : Type 1} → statement M
 request-line-spec =

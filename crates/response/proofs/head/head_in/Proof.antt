@@ -81,7 +81,10 @@ enum-told : tie.Need-enum-told Inv-loop μ-loop
 enum-told c = search needs
 
 returns-4 : tie.Need-returns-4 Inv-loop μ-loop
-returns-4 c = sym (bad-line (c .before .before .before .before .before .before .before .before .before .before .loop .inv) _ (c .before .before .before .before .before .before .before .before .find .ensures) (c .before .before .before .before .before .before .before .if1 .left) _ (c .before .before .before .before .before .before .bare-end .ensures) (c .before .before .before .before .before .if2 .left) (sym (ap stepOption (c .enum-told .given .1)) ∙ c .before .before .line-step .ensures))
+returns-4 c =
+    let d = c .before .before .before .before .before in
+    let f = d .before .before .before in
+    sym (bad-line (f .before .before .loop .inv) _ (f .find .ensures) (d .before .before .if1 .left) _ (d .before .bare-end .ensures) (d .if2 .left) (sym (ap stepOption (c .enum-told .given .1)) ∙ c .before .before .line-step .ensures))
 
 add-n : tie.Need-add-n Inv-loop μ-loop
 add-n c = omega (arith, c .before .before .before .before .before .before .before .before .before .before .before .loop .inv .count)
@@ -93,7 +96,10 @@ loop-less : tie.Need-loop-less Inv-loop μ-loop
 loop-less c = omega (arith, c .before .before .before .before .before .before .before .before .if1 .left, starts (c .before .before .before .before .before .before .before))
 
 loop-again : tie.Need-loop-again Inv-loop μ-loop
-loop-again c = onward (c .before .before .before .before .before .before .before .before .before .before .before .loop .inv) _ (c .before .before .before .before .before .before .before .before .before .find .ensures) (c .before .before .before .before .before .before .before .before .if1 .left) _ (c .before .before .before .before .before .before .before .bare-end .ensures) (c .before .before .before .before .before .before .if2 .left) (c .before .before .before .before .before .if3 .left) _ (sym (ap stepOption (c .before .r .given .1)) ∙ c .before .before .before .line-step .ensures)
+loop-again c =
+    let d = c .before .before .before .before .before in
+    let f = d .before .before .before in
+    onward (f .before .before .before .loop .inv) _ (f .before .find .ensures) (f .if1 .left) _ (d .before .before .bare-end .ensures) (d .before .if2 .left) (d .if3 .left) _ (sym (ap stepOption (c .before .r .given .1)) ∙ c .before .before .before .line-step .ensures)
 
 returns-5 : tie.Need-returns-5 Inv-loop μ-loop
 returns-5 c = sym (at-end (c .before .loop .inv) (c .loop-test .left))
