@@ -1,9 +1,10 @@
 -- The parts in which a block of variables is written are its variables, in their order.
 -- Assumes nothing.
 use Prim.Native.Nat.{ℕ, _+_, _-_, _≤_}
+use Prim.{absurd}
 use mathlib.Core.Path.{_≡_, refl, sym, ap, _∙_}
 use mathlib.Core.Bool.{Bool, true, false, cond}
-use mathlib.Core.List.{List, _++_, append-assoc, map}
+use mathlib.Core.List.{List, [], _∷_, _++_, append-assoc, map}
 use mathlib.Core.Option.{none, some}
 use native.Mathlib.Omega.{arith}
 use lib.ListN.{length, take, drop, length-take, length-drop, drop-of-length-le}
@@ -36,11 +37,12 @@ rest-take s k n h l =
 -- The query, whose start is told by the path's length p in a target of n bytes at t.
 
 module _ (s : List ℕ) (t n p : ℕ) (inside : t + n ≤ length s) (h : p ≤ n) (e : queryOf (take n (drop t s)) ≡ drop (p + 1) (take n (drop t s))) where
-  pub query-none : t + p ≡ t + n → take (t + n - (t + n)) (drop (t + n) s) ≡ queryOf (take n (drop t s))
-  query-none q =
-      let z : t + n - (t + n) ≡ 0 = omega arith in
+  -- no byte is left for it
+  pub query-none : t + p ≡ t + n → (w : List ℕ) → length w ≡ 0 → w ≡ queryOf (take n (drop t s))
+  query-none q [] z =
       let l : length (take n (drop t s)) ≤ p + 1 = omega (arith, length-take n (drop t s)) in
-      rw (z, e) (sym (drop-of-length-le (take n (drop t s)) l))
+      sym (e ∙ drop-of-length-le (take n (drop t s)) l)
+  query-none q (b ∷ w) z = absurd (omega arith)
 
   pub query-some : (t + p ≡ t + n → ⊥) → take (t + n - (t + p + 1)) (drop (t + p + 1) s) ≡ queryOf (take n (drop t s))
   query-some q =

@@ -2,6 +2,7 @@
 -- Assumes nothing.
 use mathlib.Core.Path.{refl}
 use native.Mathlib.Omega.{arith}
+use lib.ListN.{length-take}
 use Rattle.variables.proofs.Blocks.{query-none, query-some}
 use borrow.Author.Needs.{needs}
 use Rattle.variables.proofs.block.query.Statement.{statement}
@@ -25,7 +26,7 @@ part-result-end c = search needs
 returns : tie.Need-returns
 returns c =
     let a = c .before .before .before .before .args .line in
-    (query-none (c .before .before .before .before .args .head .now) (a .target) (a .len) (a .path) (c .before .before .before .before .pre .0) (c .before .before .before .before .pre .1) (c .before .before .before .before .pre .2) (c .before .if1 .taken), record { memory = refl; offset = omega arith })
+    (query-none (c .before .before .before .before .args .head .now) (a .target) (a .len) (a .path) (c .before .before .before .before .pre .0) (c .before .before .before .before .pre .1) (c .before .before .before .before .pre .2) (c .before .if1 .taken) _ (simp length-take (omega arith)), record { memory = refl; offset = omega arith })
 
 add-result : tie.Need-add-result
 add-result c = search needs
