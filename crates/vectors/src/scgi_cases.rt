@@ -1,7 +1,9 @@
 // The SCGI reader, writer and lookups.
 use crate::print;
+use headers::lookup::Lookup;
 use headers::lookup::Place;
 use headers::lookup::find;
+use headers::setting::Sought;
 use headers::setting::Where;
 use headers::setting::find_setting;
 use scgi::read::Reading;
@@ -108,7 +110,11 @@ pub fn writer() {
 }
 
 fn show_find(block: &[u8], name: &[u8]) {
-    let p = find(block, name);
+    let l = find(block, name);
+    let Lookup::Found(p) = l else {
+        print::refused(l.number());
+        return;
+    };
     match p {
         Place::At { start, len } => {
             print::word(b"at");
@@ -120,7 +126,6 @@ fn show_find(block: &[u8], name: &[u8]) {
             print::word(b"absent");
             print::end();
         }
-        Place::Refused(n) => print::refused(n),
     }
 }
 
@@ -136,7 +141,11 @@ pub fn lookup() {
 }
 
 fn show_setting(first: &[u8], second: &[u8], name: &[u8]) {
-    let w = find_setting(first, second, name);
+    let s = find_setting(first, second, name);
+    let Sought::Found(w) = s else {
+        print::refused(s.number());
+        return;
+    };
     match w {
         Where::First { start, len } => {
             print::word(b"first");
@@ -154,7 +163,6 @@ fn show_setting(first: &[u8], second: &[u8], name: &[u8]) {
             print::word(b"absent");
             print::end();
         }
-        Where::Refused(n) => print::refused(n),
     }
 }
 
