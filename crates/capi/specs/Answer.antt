@@ -16,8 +16,8 @@ abbrev pub returned : Outcome (List ℕ) → ℕ
 returned (refused n) = n
 returned (gives ns) = 0
 
--- a call that gives these numbers returns r, and makes of the list before the list after: the numbers at its front and the rest as it was, or no
--- change at a refusal
+-- a call that gives these numbers returns r, and makes of the list before the list after: the numbers at its front and the rest as it was,
+-- or no change at a refusal
 pub record Answered (o : Outcome (List ℕ)) (before after : List ℕ) (r : ℕ) : Type 0 where
   pub number : r ≡ returned (fitting o before)
   pub list : after ≡ outputAfter (fitting o before) before

@@ -35,7 +35,8 @@ pub record ZeroIsGiven : Type 0 where
 -- where a call does not return 0, nothing that was lent is changed: "Every refusal .. changes no byte of the output"
 pub record RefusalKeeps : Type 0 where
   pub answer : (o : Outcome (List ℕ)) (before after : List ℕ) (r : ℕ) → Answered o before after r → (r ≡ 0 → ⊥) → after ≡ before
-  pub output : (block body out out′ answer answer′ : List ℕ) (r : ℕ) → WriteAnswered block body out out′ answer answer′ r → (r ≡ 0 → ⊥) → out′ ≡ out
+  pub output :
+      (block body out out′ answer answer′ : List ℕ) (r : ℕ) → WriteAnswered block body out out′ answer answer′ r → (r ≡ 0 → ⊥) → out′ ≡ out
   pub lengths :
       (bytes lengths lengths′ answer answer′ : List ℕ) (r : ℕ) → SpoolAnswered bytes lengths lengths′ answer answer′ r → (r ≡ 0 → ⊥)
       → lengths′ ≡ lengths

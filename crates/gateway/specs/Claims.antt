@@ -29,9 +29,9 @@ BytesExactlyMeaning =
     → stepOf facts site mounts http room ≡ gives f → stepOf facts site mounts http′ room′ ≡ gives f′
     → (f .scgi ≡ f′ .scgi) ↔ (meaningAt http ≡ meaningAt http′)
 
--- what is written for an accepted request: the variables of its meaning and the meaning's body, a request of the 2008 text within our limits,
--- under the mount that wins for the decoded path: "SCRIPT_NAME is that name, PATH_INFO the rest", and the pool is that mount's; whatever stands
--- behind it, the SCGI reader accepts it, with just this block and this body, and uses just the bytes written
+-- what is written for an accepted request: the variables of its meaning and the meaning's body, a request of the 2008 text within our
+-- limits, under the mount that wins for the decoded path: "SCRIPT_NAME is that name, PATH_INFO the rest", and the pool is that mount's;
+-- whatever stands behind it, the SCGI reader accepts it, with just this block and this body, and uses just the bytes written
 pub record WrittenFor (facts site mounts http rest : List ℕ) (f : Forward) : Type 0 where
   pub lent : Lent
   pub meaning : Meaning
@@ -63,8 +63,8 @@ abbrev pub PoolIsValue : Type 0
 PoolIsValue =
     (facts site mounts http : List ℕ) (room : ℕ) (f : Forward) → stepOf facts site mounts http room ≡ gives f → PoolStands mounts f
 
--- HTTP requests end to end frame as spools do, by the bytes used of each: an accepted request keeps its answer when bytes follow, and gives 1
--- when it is cut short
+-- HTTP requests end to end frame as spools do, by the bytes used of each: an accepted request keeps its answer when bytes follow, and
+-- gives 1 when it is cut short
 abbrev pub PipelinesFrame : Type 0
 PipelinesFrame = (facts site mounts : List ℕ) → Frames (usedBy (lentOf facts site mounts))
 
@@ -84,7 +84,8 @@ PipelineGoesOn = (facts site mounts : List ℕ) → SpoolGoesOn (usedBy (lentOf 
 abbrev pub RoomIsLast : Type 0
 RoomIsLast =
     (facts site mounts http : List ℕ) (room : ℕ)
-    → stepOf facts site mounts http room ≡ then (forwardOf (lentOf facts site mounts) http) (λ f. need (leb (length (f .scgi)) room) 21 (gives f))
+    → stepOf facts site mounts http room
+    ≡ then (forwardOf (lentOf facts site mounts) http) (λ f. need (leb (length (f .scgi)) room) 21 (gives f))
 
 -- the step's numbers: "20; then 11 or 1; 12; 13; 14; 15; 16; 17; 18; 19; 9; 1 for a short body; 22; 21"
 abbrev pub stepNumbers : List ℕ

@@ -34,8 +34,8 @@ abbrev pub steppingOutcome : Stepping → Outcome Answer
 steppingOutcome (Written n s l u) = gives (record { written = n; poolStart = s; poolLength = l; used = u })
 steppingOutcome (Refused n) = refused n
 
--- the answer r, and the output at exit, are those of what the step gives: "Success writes the first n bytes, reports n, and leaves the rest"; a
--- refusal "changes no byte of the output"
+-- the answer r, and the output at exit, are those of what the step gives: "Success writes the first n bytes, reports n, and leaves the
+-- rest"; a refusal "changes no byte of the output"
 pub record Stepped (o : Outcome Forward) (before after : List ℕ) (r : Stepping) : Type 0 where
   pub answer : steppingOutcome r ≡ then o (λ f. gives (answerOf f))
   pub output : after ≡ outputAfter (then o (λ f. gives (f .scgi))) before

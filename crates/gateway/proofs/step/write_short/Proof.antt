@@ -33,8 +33,9 @@ same-length-2 c = search needs
 
 returns-2 : tie.Need-returns-2
 returns-2 c =
-    let a = c .before .before .before .before .before .before .before .before .before .before .before .before .before .before .before .before .before .before .before .args in
-    let left = tried-again 2048 (blockAt (a .facts .now) (a .site .now) (a .head .now) (a .places .now) (a .path .now) (a .body .now) (a .settings) (a .line) (a .fields) (a .name-len)) (a .body .now) (a .out .now) _ _ (c .before .before .before .before .before .before .before .before .before .write-by .ensures) (sym (c .before .before .before .before .before .number .ensures) ∙ c .before .before .before .before .if1 .left) in
+    let k = c .before .before .before .before .before in
+    let a = k .before .before .before .before .before .before .before .before .before .before .before .before .before .before .args in
+    let left = tried-again 2048 (blockAt (a .facts .now) (a .site .now) (a .head .now) (a .places .now) (a .path .now) (a .body .now) (a .settings) (a .line) (a .fields) (a .name-len)) (a .body .now) (a .out .now) _ _ (k .before .before .before .before .write-by .ensures) (sym (k .number .ensures) ∙ c .before .before .before .before .if1 .left) in
     rw left at (c .before .before .write-large .ensures)
 
 pub write-short-spec : {M : Type 1} → statement M

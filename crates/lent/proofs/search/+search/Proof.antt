@@ -134,8 +134,9 @@ search-returns-2 : (t : ℕ) → search-lts.Need-returns-2 (
   search′.Post,
 ) (search-at t) search′.Post
 search-returns-2 t c =
-    let s = c .before .before .before .before .before .before .before .before .before .before .before in
-    c .search .ensures ∙ shorter-path (s .args .mounts .now) (s .args .path .now) (s .pre .1) _ (looked-up _ _ _ _ (c .before .before .before .before .before .before .before .before .seek .ensures) (c .before .before .before .before .before .before .enum-told .given .1)) (sym (c .before .before .before .before .before .last-slash .ensures) ∙ ap (slashPart _) (c .before .before .before .s .given .1))
+    let l = c .before .before .before .before .before in
+    let s = l .before .before .before .before .before .before in
+    c .search .ensures ∙ shorter-path (s .args .mounts .now) (s .args .path .now) (s .pre .1) _ (looked-up _ _ _ _ (l .before .before .before .seek .ensures) (l .before .enum-told .given .1)) (sym (l .last-slash .ensures) ∙ ap (slashPart _) (c .before .before .before .s .given .1))
 
 search-returns-3 : (t : ℕ) → search-lts.Need-returns-3 (
   seek-reads.Asked,
