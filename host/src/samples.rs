@@ -54,13 +54,48 @@ fn scgi_block(headers: usize, body_len: usize) -> Vec<u8> {
     block(&pairs)
 }
 
-fn scgi_request(headers: usize, body_len: usize) -> Vec<u8> {
-    let block = scgi_block(headers, body_len);
+fn scgi_request(block: &[u8], body_len: usize) -> Vec<u8> {
     let mut bytes = format!("{}:", block.len()).into_bytes();
-    bytes.extend_from_slice(&block);
+    bytes.extend_from_slice(block);
     bytes.push(b',');
     bytes.resize(bytes.len() + body_len, b'b');
     bytes
+}
+
+/// The name with a number, of a block's names.
+type NameOf = fn(usize) -> Vec<u8>;
+
+/// What the 128 names of a block are like.
+const NAMES: [(&str, NameOf); 3] = [
+    ("128 names, no two of one length", long_name),
+    ("128 names, differ in the first byte", first_differs),
+    ("128 names, differ in the last byte", last_differs),
+];
+
+/// The names but CONTENT_LENGTH and SCGI, at = 0 to 125: lengths of 1 to 128 bytes but 4 and 14, which those two have.
+fn long_name(at: usize) -> Vec<u8> {
+    let len = (1..).filter(|len| ![4, 14].contains(len)).nth(at).unwrap();
+    vec![b'N'; len]
+}
+
+/// A byte for each of the names, no NUL and no first byte of the other two.
+fn own_byte(at: usize) -> u8 {
+    (1..=255).filter(|byte| !b"CS".contains(byte)).nth(at).unwrap()
+}
+
+fn first_differs(at: usize) -> Vec<u8> {
+    [&[own_byte(at)], &b"_HEADER_OF_ONE_LENGTH"[..]].concat()
+}
+
+fn last_differs(at: usize) -> Vec<u8> {
+    [b"HEADER_OF_ONE_LENGTH_", &[own_byte(at)][..]].concat()
+}
+
+/// A block of 128 headers by their names.
+fn named_block(name: NameOf) -> Vec<u8> {
+    let mut pairs = vec![pair("CONTENT_LENGTH", b"0"), pair("SCGI", b"1")];
+    pairs.extend((0..MAX_HEADERS - 2).map(|at| (name(at), b"v".to_vec())));
+    block(&pairs)
 }
 
 /// Field lines, about 54 bytes each with their ends.
@@ -123,13 +158,19 @@ pub fn all() -> Vec<Sample> {
         Sample::new(Call::Response, "recorded", recorded_cases(Call::Response)),
     ];
     for (input, count, body_len) in SIZES {
-        samples.push(Sample::new(Call::Read, input, vec![Case::new(Call::Read, vec![scgi_request(count, body_len)], 0)]));
-        let parts = vec![scgi_block(count, body_len), vec![b'b'; body_len]];
+        let block = scgi_block(count, body_len);
+        samples.push(Sample::new(Call::Read, input, vec![Case::new(Call::Read, vec![scgi_request(&block, body_len)], 0)]));
+        let parts = vec![block, vec![b'b'; body_len]];
         samples.push(Sample::new(Call::Write, input, vec![Case::new(Call::Write, parts, 20_000 + body_len)]));
         if count <= MAX_FIELDS {
             samples.push(Sample::new(Call::Gateway, input, vec![http_case(count, body_len)]));
             samples.push(Sample::new(Call::Response, input, vec![response_case(count, body_len)]));
         }
+    }
+    for (input, name) in NAMES {
+        let block = named_block(name);
+        samples.push(Sample::new(Call::Read, input, vec![Case::new(Call::Read, vec![scgi_request(&block, 0)], 0)]));
+        samples.push(Sample::new(Call::Write, input, vec![Case::new(Call::Write, vec![block, Vec::new()], 20_000)]));
     }
     samples.extend(spool_samples());
     samples.sort_by_key(|sample| sample.call as usize);
