@@ -100,4 +100,5 @@ module _ (facts site mounts http : List ℕ) (p : SettingPlaces) (h : ℕ) where
     RequestKnown = (256 ≤ length places) × LineKnown (take (h - 4) http) path l × FieldsKnown (take (h - 4) http) places f
 
     abbrev pub requestStep : ℕ → Outcome Forward
-    requestStep room = roomFor room (forwardFrom (settingsAt facts site p) (mountsAt mounts) http h (requestIn (take (h - 4) http) places path l f))
+    requestStep room =
+        roomFor room (forwardFrom (settingsAt facts site p) (mountsAt mounts) http h (requestIn (take (h - 4) http) places path l f))
