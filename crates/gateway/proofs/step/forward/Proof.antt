@@ -25,10 +25,10 @@ got :
 got c = won _ _ _ _ _ (ap mountOutcome (sym (c .before .m .given .1)) ∙ c .before .before .before .search .ensures)
 
 slice-aggregate-search : tie.Need-slice-aggregate-search
-slice-aggregate-search c = sym (length-take-le _ _ (c .before .before .before .before .before .before .before .before .pre .5 .decoded-inside))
+slice-aggregate-search c = sym (length-take-le _ _ (c .before .before .before .before .before .before .before .before .pre .1 .1 .decoded-inside))
 
 search-requires : tie.Need-search-requires
-search-requires c κs = c .before .before .before .before .before .before .before .before .pre .1
+search-requires c κs = c .before .before .before .before .before .before .before .before .pre .0 .1
 
 enum-known-m : tie.Need-enum-known-m
 enum-known-m c = search needs
@@ -68,7 +68,7 @@ sub-head : tie.Need-sub-head
 sub-head c = search needs
 
 slice-aggregate-head : tie.Need-slice-aggregate-head
-slice-aggregate-head c = sym (length-take-le _ _ (omega (arith, c .before .before .before .before .before .before .before .before .before .before .before .before .before .before .before .before .pre .3)))
+slice-aggregate-head c = sym (length-take-le _ _ (omega (arith, c .before .before .before .before .before .before .before .before .before .before .before .before .before .before .before .before .pre .0 .3)))
 
 sub-body : tie.Need-sub-body
 sub-body c = search needs
@@ -82,7 +82,7 @@ part-body-end c = search needs
 write-request-requires : tie.Need-write-request-requires
 write-request-requires c κs =
     let s = c .before .before .before .before .before .before .before .before .before .before .before .before .before .before .before .before .before .before in (
-      record { settings = s .pre .0; line = s .pre .5; fields = s .pre .6; numbers = s .pre .4; name = omega (arith, got (c .before .before .before .before .before .before) .inside, length-take (s .args .line .decoded) (s .args .path .now)) },
+      record { settings = s .pre .0 .0; line = s .pre .1 .1; fields = s .pre .1 .2; numbers = s .pre .1 .0; name = omega (arith, got (c .before .before .before .before .before .before) .inside, length-take (s .args .line .decoded) (s .args .path .now)) },
       simp length-take (omega (arith, c .before .before .before .before .if1 .left)),
     )
 

@@ -21,13 +21,13 @@ sub-read-request : tie.Need-sub-read-request
 sub-read-request c = search needs
 
 slice-aggregate-read-request : tie.Need-slice-aggregate-read-request
-slice-aggregate-read-request c = sym (length-take-le _ _ (omega (arith, c .before .before .before .before .before .before .before .before .before .pre .3)))
+slice-aggregate-read-request c = sym (length-take-le _ _ (omega (arith, c .before .before .before .before .before .before .before .before .before .pre .0 .3)))
 
 slice-aggregate-read-request-2 : tie.Need-slice-aggregate-read-request-2
 slice-aggregate-read-request-2 c = search needs
 
 read-request-requires : tie.Need-read-request-requires
-read-request-requires c κs = (c .before .before .before .before .kinds .ensures, search needs, simp length-take (omega (arith, c .before .before .before .before .before .before .before .before .before .before .before .pre .4)))
+read-request-requires c κs = (c .before .before .before .before .kinds .ensures, search needs, simp length-take (omega (arith, c .before .before .before .before .before .before .before .before .before .before .before .pre .1)))
 
 enum-known-q : tie.Need-enum-known-q
 enum-known-q c = search needs
@@ -55,7 +55,7 @@ forward-requires : tie.Need-forward-requires
 forward-requires c κs =
     let s = c .before .before .before .before .before .before .before .before .before .before .before .before .before .before .before .before .before .before .before .before .before in
     let w = requests-told .accepts _ _ _ _ _ _ _ (rw (c .before .before .before .before .q .given .1) at (c .before .before .before .before .before .before .before .before .before .read-request .ensures)) in
-    (s .pre .0, s .pre .1, s .pre .2, s .pre .3, search needs, w .line, w .fields)
+    (s .pre .0, (search needs, w .line, w .fields))
 
 same-length-2 : tie.Need-same-length-2
 same-length-2 c = search needs
