@@ -14,8 +14,8 @@ ghost use Rattle.variables.specs.Variables.{variableByte, httpName, http
 ghost use Rattle.variables.specs.Put.{variable, ifThere, PutDone};
 ghost use Rattle.variables.specs.FieldVariables.{lowName, namesBefore, lowFrom, addedAt, valueFrom, makes, variableFrom};
 use crate::put::Put;
-use crate::put::put_ended;
 use crate::put::put_piece;
+use crate::put::put_value;
 use octets::compare::same_letters;
 use octets::compare::upper;
 use request::stored::field_name;
@@ -219,7 +219,7 @@ fn put_alone(head: &[u8], places: &[u64], k: usize, out: &mut [u8], at: usize) -
         return Put::Full;
     };
     let value = field_value(head, places, k);
-    put_ended(out, m, value)
+    put_value(out, m, value)
 }
 
 // Writes the variable of the field with number k, if it makes one; repeat is whether two of the n names are the same.

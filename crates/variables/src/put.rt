@@ -3,6 +3,7 @@ ghost use Prim.Native.Nat.{_≤_};
 ghost use mathlib.Core.List.{[], _∷_, _++_};
 ghost use lib.ListN.{length};
 ghost use Rattle.variables.specs.Put.{variable, ifThere, PutDone};
+use bulk::copy::put_any;
 use octets::copy::put;
 
 pub enum Put {
@@ -35,6 +36,18 @@ pub fn put_ended(out: &mut [u8], at: usize, src: &[u8]) -> Put
     put_piece(out, n, b"\0")
 }
 
+// The same for bytes whose count is not known when the program is compiled.
+pub fn put_value(out: &mut [u8], at: usize, src: &[u8]) -> Put
+    requires { ⌜ at ≤ length (now out) ⌝ }
+    ensures { λ r. ⌜ PutDone (now (out .entry)) at (now (src .entry) ++ 0 ∷ []) (now (out .exit)) r ⌝ }
+{
+    if out.len() - at <= src.len() {
+        return Put::Full;
+    }
+    let n = put_any(out, at, src);
+    Put::At(put(out, n, b"\0"))
+}
+
 // Writes a variable: name, NUL, value, NUL.
 pub fn put_variable(out: &mut [u8], at: usize, name: &[u8], value: &[u8]) -> Put
     requires { ⌜ at ≤ length (now out) ⌝ }
@@ -44,7 +57,7 @@ pub fn put_variable(out: &mut [u8], at: usize, name: &[u8], value: &[u8]) -> Put
     let Put::At(n) = p else {
         return Put::Full;
     };
-    put_ended(out, n, value)
+    put_value(out, n, value)
 }
 
 // Writes two variables.

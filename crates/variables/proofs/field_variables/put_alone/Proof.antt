@@ -41,14 +41,14 @@ returns c =
 field-value-requires : tie.Need-field-value-requires
 field-value-requires c κs = search needs
 
-put-ended-requires : tie.Need-put-ended-requires
-put-ended-requires c κs = put-within (first (c .before .before))
+put-value-requires : tie.Need-put-value-requires
+put-value-requires c κs = put-within (first (c .before .before))
 
 same-length-2 : tie.Need-same-length-2
 same-length-2 c = search needs
 
 returns-2 : tie.Need-returns-2
-returns-2 c = put-then (first (c .before .before .before .before .before)) (rw (c .before .before .before .before .field-value .ensures .0) at (c .before .before .put-ended .ensures))
+returns-2 c = put-then (first (c .before .before .before .before .before)) (rw (c .before .before .before .before .field-value .ensures .0) at (c .before .before .put-value .ensures))
 
 pub put-alone-spec : {M : Type 1} → statement M
 put-alone-spec =
@@ -61,6 +61,6 @@ put-alone-spec =
     same-length
     returns
     field-value-requires
-    put-ended-requires
+    put-value-requires
     same-length-2
     returns-2)
