@@ -106,26 +106,6 @@ module _ (s t : List ℕ) (i n : ℕ) (w : length t ≡ n) where
       let z : drop k t ≡ [] = drop-of-length-le t h′ in
       sym (e ∙ rw (left-none s i n k h, z) (and-true ok))
 
--- whether the bytes are those of another chunk at the same place
-
-module _ (s t : List ℕ) (i n : ℕ) (h : i + n ≤ length s) (g : i + n ≤ length t) where
-  pub both-start : sameBytes (take n (drop i s)) (take n (drop i t)) ≡ true && sameBytes (left s i n 0) (left t i n 0)
-  both-start =
-      ap (λ (u : List ℕ). sameBytes u (take n (drop i t))) (sym (left-all s i n)) ∙ ap (sameBytes (left s i n 0)) (sym (left-all t i n))
-
-  pub both-more :
-      (k : ℕ) (ok : Bool) {whole : Bool} → k < n → whole ≡ ok && sameBytes (left s i n k) (left t i n k)
-      → whole ≡ (ok && eqb (getD s (i + k) 0) (getD t (i + k) 0)) && sameBytes (left s i n (k + 1)) (left t i n (k + 1))
-  unfolding sameBytes
-  both-more k ok {whole} l e =
-      e ∙ ap (λ (u : List ℕ). ok && sameBytes u (left t i n k)) (left-first s i n k l h)
-      ∙ ap (λ (u : List ℕ). ok && sameBytes (getD s (i + k) 0 ∷ left s i n (k + 1)) u) (left-first t i n k l g)
-      ∙ and-and ok (eqb (getD s (i + k) 0) (getD t (i + k) 0)) (sameBytes (left s i n (k + 1)) (left t i n (k + 1)))
-
-  pub both-end : (k : ℕ) (ok : Bool) {whole : Bool} → n ≤ k → whole ≡ ok && sameBytes (left s i n k) (left t i n k) → ok ≡ whole
-  unfolding sameBytes
-  both-end k ok {whole} l e = sym (e ∙ rw (left-none s i n k l, left-none t i n k l) (and-true ok))
-
 -- a run goes on behind n bytes that pass the test
 pub run-skip : (p : ℕ → Bool) (s : List ℕ) (n : ℕ) → n ≤ length s → allOf p (take n s) ≡ true → run p s ≡ n + run p (drop n s)
 unfolding run allOf

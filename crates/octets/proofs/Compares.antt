@@ -2,12 +2,11 @@
 -- Assumes nothing.
 use mathlib.Core.Path.{_≡_, refl, sym, ap, _∙_}
 use mathlib.Core.Bool.{Bool, true, false, _&&_, false≢true}
-use mathlib.Core.List.{List, [], _∷_, _++_, map}
+use mathlib.Core.List.{List, [], _∷_, map}
 use Prim.Native.Nat.{ℕ, zero, suc, _+_, _-_, _≤_, _<_}
 use native.Mathlib.Omega.{arith}
 use lib.Dec.{eqb}
-use lib.ListN.{length, take, drop, getD, drop-of-length-le, take-append-drop}
-use lib.Seq.{drop-drop}
+use lib.ListN.{length, drop, getD, drop-of-length-le}
 use borrow.Author.Tests.{eq-eqb, ne-eqb, eqb-true}
 use Rattle.octets.specs.Compare.{sameBytes}
 use Rattle.octets.proofs.Bools.{and-left, and-right, and-false}
@@ -43,43 +42,6 @@ same-turned a b = by (sameBytes a b) refl
     by : (t : Bool) → sameBytes a b ≡ t → sameBytes a b ≡ sameBytes b a
     by true e = ap (λ x. sameBytes x b) (same-true a b e) ∙ ap (sameBytes b) (sym (same-true a b e))
     by false e = e ∙ sym (same-false b a (λ h. false≢true (sym e ∙ ap (sameBytes a) h ∙ same-refl a)))
-
--- For a loop that compares n bytes at once, from the end.
-
-pub nothing-behind : (a b : List ℕ) → length a ≡ length b → drop (length a) a ≡ drop (length a) b
-nothing-behind a b l =
-    let h : length a ≤ length a = omega arith in
-    let g : length b ≤ length a = omega arith in
-    drop-of-length-le a h ∙ sym (drop-of-length-le b g)
-
-module _ (a b : List ℕ) (i n : ℕ) where
-  pub chunk-differs : sameBytes (take n (drop i a)) (take n (drop i b)) ≡ false → sameBytes a b ≡ false
-  chunk-differs e =
-      same-false a b
-      (λ h. false≢true (sym e ∙ ap (λ x. sameBytes (take n (drop i a)) (take n (drop i x))) (sym h) ∙ same-refl (take n (drop i a))))
-
-  pub chunk-same :
-      sameBytes (take n (drop i a)) (take n (drop i b)) ≡ true → drop (i + n) a ≡ drop (i + n) b → drop i a ≡ drop i b
-  chunk-same e d =
-      let x : take n (drop i a) ≡ take n (drop i b) = same-true _ _ e in
-      let y : drop n (drop i a) ≡ drop n (drop i b) = drop-drop n i a ∙ d ∙ sym (drop-drop n i b) in
-      sym (take-append-drop n (drop i a)) ∙ ap (λ u. u ++ drop n (drop i a)) x ∙ ap (λ u. take n (drop i b) ++ u) y ∙ take-append-drop n (drop i b)
-
--- the first n bytes decide, where those behind them are equal
-pub front-decides :
-    (a b : List ℕ) (i n : ℕ) → i ≤ n → drop i a ≡ drop i b → sameBytes (take n (drop 0 a)) (take n (drop 0 b)) ≡ sameBytes a b
-front-decides a b i n h d = by (sameBytes (take n (drop 0 a)) (take n (drop 0 b))) refl
-  where
-    z : i + (n - i) ≡ 0 + n
-    z = omega arith
-
-    rest : drop (0 + n) a ≡ drop (0 + n) b
-    rest = rw (sym z) (sym (drop-drop (n - i) i a) ∙ ap (drop (n - i)) d ∙ drop-drop (n - i) i b)
-
-    by :
-        (t : Bool) → sameBytes (take n (drop 0 a)) (take n (drop 0 b)) ≡ t → sameBytes (take n (drop 0 a)) (take n (drop 0 b)) ≡ sameBytes a b
-    by true e = e ∙ sym (ap (sameBytes a) (sym (chunk-same a b 0 n e rest)) ∙ same-refl a)
-    by false e = e ∙ sym (chunk-differs a b 0 n e)
 
 -- For loops that compare what f makes of each byte; f is the byte itself where bytes are compared exactly.
 

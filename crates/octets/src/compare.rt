@@ -1,25 +1,10 @@
 // Equal bytes, exactly and letter case aside.
 ghost use mathlib.Core.Path.{_≡_};
-ghost use Prim.Native.Nat.{_+_, _≤_};
-ghost use lib.ListN.{length, take, drop};
+ghost use lib.ListN.{length};
 ghost use Rattle.octets.specs.Compare.{sameBytes, lowerOf, upperOf, sameLetters};
 
-// Whether eight bytes from i on are the same in both. Written with no way out of the loop, so that the compiler compares them as one number.
-fn same_eight(a: &[u8], b: &[u8], i: usize) -> bool
-    requires { ⌜ (i + 8 ≤ length (now a)) × (i + 8 ≤ length (now b)) ⌝ }
-    ensures { λ r. ⌜ r ≡ sameBytes (take 8 (drop i (now (a .entry)))) (take 8 (drop i (now (b .entry)))) ⌝ }
-{
-    let mut ok = true;
-    let mut k: usize = 0;
-    while k < 8 {
-        ok = ok & (a[i + k] == b[i + k]);
-        k += 1;
-    }
-    ok
-}
-
-// The same as equal_bytes, for a few bytes: one after the other.
-fn equal_few(a: &[u8], b: &[u8]) -> bool
+// Whether two slices of one length hold the same bytes. They are compared from the end: names that are alike mostly begin alike.
+pub fn equal_bytes(a: &[u8], b: &[u8]) -> bool
     requires { ⌜ length (now a) ≡ length (now b) ⌝ }
     ensures { λ r. ⌜ r ≡ sameBytes (now (a .entry)) (now (b .entry)) ⌝ }
 {
@@ -31,25 +16,6 @@ fn equal_few(a: &[u8], b: &[u8]) -> bool
         }
     }
     true
-}
-
-// Whether two slices of one length hold the same bytes. They are compared from the end, names that are alike mostly begin alike, and by eight
-// bytes: the first eight may be compared in part twice.
-pub fn equal_bytes(a: &[u8], b: &[u8]) -> bool
-    requires { ⌜ length (now a) ≡ length (now b) ⌝ }
-    ensures { λ r. ⌜ r ≡ sameBytes (now (a .entry)) (now (b .entry)) ⌝ }
-{
-    let mut i = a.len();
-    if i < 8 {
-        return equal_few(a, b);
-    }
-    while 8 < i {
-        i -= 8;
-        if !same_eight(a, b, i) {
-            return false;
-        }
-    }
-    same_eight(a, b, 0)
 }
 
 // Whether two slices hold the same bytes.

@@ -57,7 +57,7 @@ pub fn put_variable(out: &mut [u8], at: usize, name: &[u8], value: &[u8]) -> Put
     let Put::At(n) = p else {
         return Put::Full;
     };
-    put_value(out, n, value)
+    put_ended(out, n, value)
 }
 
 // Writes two variables.

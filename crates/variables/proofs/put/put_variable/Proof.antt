@@ -27,14 +27,14 @@ same-length c = search needs
 returns : tie.Need-returns
 returns c = put-full _ (rw (c .enum-told .given .1) at (c .before .before .before .before .put-ended .ensures))
 
-put-value-requires : tie.Need-put-value-requires
-put-value-requires c κs = put-within (first (c .before))
+put-ended-requires-2 : tie.Need-put-ended-requires-2
+put-ended-requires-2 c κs = put-within (first (c .before))
 
 same-length-2 : tie.Need-same-length-2
 same-length-2 c = search needs
 
 returns-2 : tie.Need-returns-2
-returns-2 c = put-then (first (c .before .before .before .before)) (c .before .before .put-value .ensures)
+returns-2 c = put-then (first (c .before .before .before .before)) (c .before .before .put-ended2 .ensures)
 
 pub put-variable-spec : {M : Type 1} → statement M
 put-variable-spec =
@@ -45,6 +45,6 @@ put-variable-spec =
     enum-told
     same-length
     returns
-    put-value-requires
+    put-ended-requires-2
     same-length-2
     returns-2)
