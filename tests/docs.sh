@@ -1,6 +1,6 @@
 #!/usr/bin/env bash
 # The documents: docs/AUDIT.md has the list of the sources, no line is above 100 columns, and every link and every source file that is named
-# is there.
+# is there; docs/PROMISES.md names every must-fail edit.
 test=docs
 # shellcheck source=tests/asserts.bash
 source "$(dirname "${BASH_SOURCE[0]}")/asserts.bash"
@@ -18,4 +18,8 @@ done
 grep -ohE '\b[a-z]+/(src|specs|proofs)/[A-Za-z_]+\.(rt|antt)' README.md docs/AUDIT.md docs/GUIDE.md | sort -u | while read -r file; do
     [[ $file = */NAME.* ]] || [ -e "crates/$file" ] || echo "no crates/$file"
 done | grep . && complain "source files that are not there"
+for edit in crates/*/must-fail/*.edit; do
+    name=$(basename "$edit" .edit)
+    grep -qF "\`$name\`" docs/PROMISES.md || echo "docs/PROMISES.md does not name $edit"
+done | grep . && complain "edits that no promise names"
 exit $bad
