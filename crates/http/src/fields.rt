@@ -41,7 +41,7 @@ pub fn field_line(kinds: &[u8; 256], kind: Kind, line: &[u8]) -> FieldLine
     }
     let v = blank_end(line, n + 1);
     let k = kept_len(line, v);
-    if value_end(kinds, line, v) < v + k {
+    if run_end(kinds, Kind::Value, line, v) < v + k {
         return FieldLine::Malformed;
     }
     FieldLine::Field {

@@ -53,21 +53,21 @@ blank-end-requires c κs = search needs
 kept-len-requires : tie.Need-kept-len-requires
 kept-len-requires c κs = value-in c
 
-value-end-requires : tie.Need-value-end-requires
-value-end-requires c κs = (c .before .before .before .before .before .before .before .before .pre, value-in (c .before))
+run-end-requires-2 : tie.Need-run-end-requires-2
+run-end-requires-2 c κs = (c .before .before .before .before .before .before .before .before .pre, value-in (c .before))
 
 add-if4 : tie.Need-add-if4
 add-if4 c = omega (arith, end-in (c .before))
 
 returns-4 : tie.Need-returns-4
 returns-4 c =
-    malformed _ _ (bad-value _ _ _ (c .before .before .before .before .before .before .before .before .find .ensures) (c .before .before .before .before .before .before .before .if1 .left) _ _ (c .before .before .before .blank-end .ensures) (c .before .before .kept-len .ensures) _ (c .before .value-end .ensures) (c .if4 .taken))
+    malformed _ _ (bad-value _ _ _ (c .before .before .before .before .before .before .before .before .find .ensures) (c .before .before .before .before .before .before .before .if1 .left) _ _ (c .before .before .before .blank-end .ensures) (c .before .before .kept-len .ensures) _ (c .before .run-end2 .ensures) (c .if4 .taken))
 
 returns-5 : tie.Need-returns-5
 returns-5 c =
     let d = c .before .before .before in
     let f = d .before .before .before in
-    sym (whole _ _ _ (f .before .before .find .ensures) (f .before .if1 .left) _ _ (d .blank-end .ensures) (c .before .before .kept-len .ensures) (f .if2 .left) (omega (arith, d .before .before .run-end .ensures, d .before .if3 .left)) (omega (arith, c .before .value-end .ensures, c .if4 .left)))
+    sym (whole _ _ _ (f .before .before .find .ensures) (f .before .if1 .left) _ _ (d .blank-end .ensures) (c .before .before .kept-len .ensures) (f .if2 .left) (omega (arith, d .before .before .run-end .ensures, d .before .if3 .left)) (omega (arith, c .before .run-end2 .ensures, c .if4 .left)))
 
 pub field-line-spec : {M : Type 1} → statement M
 field-line-spec =
@@ -81,7 +81,7 @@ field-line-spec =
     add-blank-end
     blank-end-requires
     kept-len-requires
-    value-end-requires
+    run-end-requires-2
     add-if4
     returns-4
     returns-5)
