@@ -60,6 +60,7 @@ fn all_mounts(block: &[u8]) -> bool
             value_end,
         } = h
         else {
+            // Does not come: the block is well formed.
             return false;
         };
         if block[i] != b'/' {

@@ -35,6 +35,7 @@ fn judge(kinds: &[u8; 256], s: &[u8], end: usize, fields: usize, seen: Seen) -> 
     }
     let t = status(s, stated);
     let Stated::Code(code) = t else {
+        // "Then, or 25: .. Status is three digits, alone or followed by a space and any reason, 200 to 599".
         return Response::Refused(25);
     };
     table_row(s, location, is_once(content), code, fields, end)
