@@ -94,20 +94,17 @@ header-among b (later-mount a) = later (header-among b a)
 
 stands :
     (mounts : List ℕ) (f : Forward) (m : Mount) (hs : List Header) → parsed mounts ≡ gives hs → (f .poolStart ≡ m .poolStart) × (f .poolLength ≡ m .poolLength)
-    → m .poolStart + m .poolLength ≤ length mounts → Among (headerAt mounts m) hs → PoolStands mounts f
-stands mounts f m hs e p i a = record { name = m .name; hs = hs; are = e; inside = rw (p .0, p .1) i; value = rw (p .0, p .1) a }
+    → m .poolStart + m .poolLength ≤ length mounts → Among (headerAt mounts m) hs → PoolStands mounts m f
+stands mounts f m hs e p i a = record { hs = hs; are = e; inside = rw (p .0, p .1) i; value = rw (p .0, p .1) a }
 
 pub pool-is-value : PoolIsValue
-pool-is-value facts site mounts http room f e =
-    let lent = lentOf facts site mounts in
-    let g = without-room lent http room f e in
-    let z = lent-of lent http f g in
-    let a = told-of facts site mounts http (z .k) (z .is) f g in
-    let ms : List Mount = z .k .mounts in
-    let are = lent-mounts facts site mounts (z .k) (z .is) in
+pool-is-value facts site mounts http rest f w =
+    let ms : List Mount = w .lent .mounts in
+    let m = w .mount in
+    let are = lent-mounts facts site mounts (w .lent) (w .is-lent) in
     let p = then-gives (parsed mounts) (λ hs. gives (placed 0 hs)) ms are in
-    let w : placed 0 (p .it) ≡ ms = gives-once _ ms (p .next) in
-    let n = mount-is-longest .wins ms (a .target .path) (a .mount) (given-gives (mountOf ms (a .target .path)) 19 (a .mount) (a .wins)) .among in
-    let h : map (headerAt mounts) ms ≡ p .it = ap (map (headerAt mounts)) (sym w) ∙ pools-are-values .values mounts (p .it) (p .first) in
-    stands mounts f (a .mount) (p .it) (p .first) (a .pool) (one-of n (pools-are-values .inside mounts ms are))
-    (subst (Among (headerAt mounts (a .mount))) h (header-among mounts n))
+    let q : placed 0 (p .it) ≡ ms = gives-once _ ms (p .next) in
+    let n = mount-is-longest .wins ms (w .target .path) m (given-gives (mountOf ms (w .target .path)) 19 m (w .wins)) .among in
+    let h : map (headerAt mounts) ms ≡ p .it = ap (map (headerAt mounts)) (sym q) ∙ pools-are-values .values mounts (p .it) (p .first) in
+    stands mounts f m (p .it) (p .first) (w .pool) (one-of n (pools-are-values .inside mounts ms are))
+    (subst (Among (headerAt mounts m)) h (header-among mounts n))

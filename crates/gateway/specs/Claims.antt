@@ -51,17 +51,17 @@ WrittenIsAccepted =
     (facts site mounts http rest : List ℕ) (room : ℕ) (f : Forward)
     → stepOf facts site mounts http room ≡ gives f → WrittenFor facts site mounts http rest f
 
--- the pool of an accepted request lies in the mounts block, and is the value of one of its headers: "each value, the pool"
-pub record PoolStands (mounts : List ℕ) (f : Forward) : Type 0 where
-  pub name : List ℕ
+-- the pool's place is that of the mount's value in the mounts block: "each value, the pool"
+pub record PoolStands (mounts : List ℕ) (m : Mount) (f : Forward) : Type 0 where
   pub hs : List Header
   pub are : parsed mounts ≡ gives hs
   pub inside : f .poolStart + f .poolLength ≤ length mounts
-  pub value : Among (record { name = name; value = take (f .poolLength) (drop (f .poolStart) mounts) }) hs
+  pub value : Among (record { name = m .name; value = take (f .poolLength) (drop (f .poolStart) mounts) }) hs
 
+-- .. of the mount that wins
 abbrev pub PoolIsValue : Type 0
 PoolIsValue =
-    (facts site mounts http : List ℕ) (room : ℕ) (f : Forward) → stepOf facts site mounts http room ≡ gives f → PoolStands mounts f
+    (facts site mounts http rest : List ℕ) (f : Forward) (w : WrittenFor facts site mounts http rest f) → PoolStands mounts (w .mount) f
 
 -- HTTP requests end to end frame as spools do, by the bytes used of each: an accepted request keeps its answer when bytes follow, and
 -- gives 1 when it is cut short
