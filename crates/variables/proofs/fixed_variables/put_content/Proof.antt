@@ -57,7 +57,13 @@ same-length-3 : tie.Need-same-length-3
 same-length-3 c = search needs
 
 returns-3 : tie.Need-returns-3
-returns-3 c = put-then (put-then (rw (c .before .before .before .before .before .before .before .before .before .before .before .before .before .before .p .given .1) at (c .before .before .before .before .before .before .before .before .before .before .before .before .before .before .before .before .before .before .put-two .ensures)) (rw (c .before .before .before .before .before .before .q .given .1) at (c .before .before .before .before .before .before .before .before .before .before .put-optional .ensures))) (c .before .before .put-optional2 .ensures)
+returns-3 c =
+    let p₁ = c .before .before in
+    let p₂ = p₁ .before .before .before .before in
+    let p₃ = p₂ .before .before .before .before in
+    let p₄ = p₃ .before .before .before .before in
+    let s = p₄ .before .before .before .before in
+    put-then (put-then (rw (p₄ .p .given .1) at (s .put-two .ensures)) (rw (p₂ .q .given .1) at (p₃ .put-optional .ensures))) (p₁ .put-optional2 .ensures)
 
 pub put-content-spec : {M : Type 1} → statement M
 put-content-spec =
