@@ -34,6 +34,8 @@ pub const MAX_BLOCK: usize = 16_384;
 pub const MAX_HEADERS: usize = 128;
 /// Bytes of a body.
 pub const MAX_BODY: usize = 1_048_576;
+/// Digits of a decimal number that is read, the netstring length aside.
+pub const MAX_DIGITS: usize = 10;
 /// Bytes of the head of an HTTP request or of a script response, its empty line included.
 pub const MAX_HEAD: usize = 8_192;
 /// Bytes of a target.

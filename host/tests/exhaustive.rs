@@ -40,6 +40,20 @@ fn blocks_of_requests() {
     });
 }
 
+/// Eight digits and up to four bytes more as a body length.
+#[test]
+fn ten_digits() {
+    every_text(b"039x", 4, &mut |text| {
+        for digits in [b"00000000", b"99999999"] {
+            let block = [b"CONTENT_LENGTH\0", &digits[..], text, b"\0SCGI\x001\0"].concat();
+            let request = [format!("{}:", block.len()).as_bytes(), &block, b",xxx"].concat();
+            compare(&Case::new(Call::Read, vec![request.clone()], 0));
+            compare(&Case::new(Call::Spool, vec![request], 1));
+            compare(&Case::new(Call::Write, vec![block, b"xxx".to_vec()], 60));
+        }
+    });
+}
+
 #[test]
 fn lookup_in_blocks() {
     every_text(b"\0AB", 6, &mut |block| {
@@ -99,6 +113,10 @@ mod gateway {
     #[test]
     fn content_lengths() {
         every_text(b"01, x", 5, &mut |text| check([b"GET /a HTTP/1.0\r\nContent-Length:", text, b"\r\n\r\nxx"].concat()));
+        every_text(b"039 x", 4, &mut |text| {
+            check([b"GET /a HTTP/1.0\r\nContent-Length: 00000000", text, b"\r\n\r\nxxx"].concat());
+            check([b"GET /a HTTP/1.0\r\nContent-Length: 99999999", text, b"\r\n\r\nxxx"].concat());
+        });
     }
 
     /// Every port and every text of a mount, over a few bytes.

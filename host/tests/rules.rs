@@ -1,5 +1,5 @@
 //! The bytes that the rules name, on both sides.
-use oyinkafubo_host::answers::{Places, WHOLE};
+use oyinkafubo_host::answers::{Places, REFUSED, WHOLE};
 use oyinkafubo_host::case::sides;
 use oyinkafubo_host::text::{bytes, EXAMPLE};
 
@@ -37,6 +37,46 @@ fn the_example_as_a_spool() {
         assert_eq!((end.stored, end.ending, end.number, lengths), (1, WHOLE, 0, [101, 7, 7]), "{name}");
         let end = side.spool(b"", &mut []).expect("a spool has an ending");
         assert_eq!((end.stored, end.ending, end.number), (0, WHOLE, 0), "{name}");
+    }
+}
+
+/// A decimal number has at most ten digits, zeros in front counted: 8, behind 7 and before 9 and 10.
+#[test]
+fn ten_digits_in_scgi() {
+    let cases = [
+        ("CONTENT_LENGTH|0000000003|SCGI|1|", Ok(40)),
+        ("CONTENT_LENGTH|00000000003|SCGI|1|", Err(8)),
+        ("CONTENT_LENGTH|9999999999|SCGI|1|", Err(9)),
+        ("CONTENT_LENGTH|99999999999|SCGI|1|", Err(8)),
+        ("CONTENT_LENGTH|18446744073709551619|SCGI|1|", Err(8)),
+        ("CONTENT_LENGTH|00000000003|SCGI|1|A||A||", Err(7)),
+        ("CONTENT_LENGTH|00000000003|", Err(8)),
+        ("CONTENT_LENGTH|0000000003|", Err(10)),
+        (&format!("CONTENT_LENGTH|{}|SCGI|1|", "0".repeat(4_000) + "3"), Err(8)),
+    ];
+    for (name, side) in sides() {
+        for (block, expected) in cases {
+            let request = bytes(&format!("{}:{block},abc", block.len()));
+            assert_eq!(side.read(&request).map(|places| places.used), expected, "{name}, read: {block}");
+            let written = side.write(&bytes(block), b"abc", &mut [0; 40]).map(|written| written.bytes);
+            assert_eq!(written, expected, "{name}, write: {block}");
+        }
+    }
+}
+
+/// A request with eleven digits between two others.
+#[test]
+fn ten_digits_in_a_spool() {
+    let around = "24:CONTENT_LENGTH|0|SCGI|1|,";
+    let ten = bytes(&format!("{around}33:CONTENT_LENGTH|0000000003|SCGI|1|,abc{around}"));
+    let eleven = bytes(&format!("{around}34:CONTENT_LENGTH|00000000003|SCGI|1|,abc{around}"));
+    for (name, side) in sides() {
+        let mut lengths = [7; 4];
+        let end = side.spool(&ten, &mut lengths).expect("a spool has an ending");
+        assert_eq!((end.stored, end.ending, end.number, lengths), (3, WHOLE, 0, [28, 40, 28, 7]), "{name}");
+        let mut lengths = [7; 4];
+        let end = side.spool(&eleven, &mut lengths).expect("a spool has an ending");
+        assert_eq!((end.stored, end.ending, end.number, lengths), (1, REFUSED, 8, [28, 7, 7, 7]), "{name}");
     }
 }
 
@@ -131,6 +171,34 @@ mod gateway {
                 let (given, out) = forward(side, http);
                 assert_eq!(given, Err(number), "{name}: {}", String::from_utf8_lossy(http));
                 assert!(out.iter().all(|&byte| byte == 0), "{name}: the output of a refused request");
+            }
+        }
+    }
+
+    /// A decimal number has at most ten digits, after the blanks around it are gone: 17, behind 16 and before 18, 19 and 9; 20 in the port.
+    #[test]
+    fn ten_digits() {
+        let cases: [(&[u8], Result<u64, u8>); 7] = [
+            (b"POST /jobs HTTP/1.0\r\nContent-Length: \t0000000003 \r\n\r\nabc", Ok(3)),
+            (b"POST /jobs HTTP/1.0\r\nContent-Length: 00000000003\r\n\r\nabc", Err(17)),
+            (b"POST /jobs HTTP/1.0\r\nContent-Length: 9999999999\r\n\r\nabc", Err(9)),
+            (b"POST /jobs HTTP/1.0\r\nContent-Length: 99999999999\r\n\r\nabc", Err(17)),
+            (b"POST /jobs HTTP/1.0\r\nContent-Length: 18446744073709551619\r\n\r\nabc", Err(17)),
+            (b"POST /jobs HTTP/1.1\r\nContent-Length: 00000000003\r\n\r\nabc", Err(16)),
+            (b"POST /x HTTP/1.0\r\nTransfer-Encoding: a\r\nContent-Length: 00000000003\r\n\r\nabc", Err(17)),
+        ];
+        let mut lent = recorded::blocks("10.0.0.9", "/jobs", "pool");
+        let request = b"GET /jobs HTTP/1.0\r\n\r\n";
+        for (name, side) in sides() {
+            for (http, expected) in cases {
+                let (given, out) = forward(side, http);
+                let body = given.map(|numbers| out[..numbers[0] as usize].rsplit(|&byte| byte == b',').next().map_or(0, |body| body.len() as u64));
+                assert_eq!(body, expected, "{name}: {}", String::from_utf8_lossy(http));
+            }
+            for port in ["9999999999", "10000000080", "0000000080", "00000000080", "18446744073709551696"] {
+                lent[1] = bytes(&format!("SERVER_NAME|q|SERVER_SOFTWARE|g|SERVER_PORT|{port}|"));
+                let blocks = Blocks { facts: &lent[0], site: &lent[1], mounts: &lent[2] };
+                assert_eq!(side.forward(blocks, request, &mut [0; 1000]).map(|given| given.used), Err(20), "{name}: {port}");
             }
         }
     }

@@ -1,5 +1,4 @@
 // The numbers that a call gives, stored in the lent list.
-ghost use mathlib.Core.Path.{_≡_};
 ghost use Rattle.octets.specs.Outcome.{gives};
 ghost use Rattle.capi.specs.Answer.{Answered};
 

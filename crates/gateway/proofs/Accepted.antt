@@ -9,6 +9,7 @@ use Rattle.octets.specs.Outcome.{gives}
 use Rattle.octets.specs.Decimal.{plain}
 use Rattle.octets.specs.Lists.{All, _&_}
 use Rattle.octets.proofs.Alls.{all-after}
+use Rattle.octets.proofs.Decimals.{ten-digits}
 use Rattle.headers.specs.Block.{here, later}
 use Rattle.scgi.specs.Grammar.{first, IsRequest}
 use Rattle.targets.specs.Target.{Target, targetOf}
@@ -87,7 +88,7 @@ module _ (k : Lent) (sound : ProperLent k) (http : List ℕ) (f : Forward) (l : 
       record {
         proper = v .proper;
         differ = v .differ;
-        states = first refl plain;
+        states = first refl plain (ten-digits (length (meaning .body)) (omega (arith, body-limit)));
         scgi = later here;
         block-limit = written .limit;
         header-limit = v .few;

@@ -2,11 +2,10 @@
 -- Assumes nothing.
 use Prim.Native.Nat.{ℕ, _+_, _≤_}
 use mathlib.Core.Path.{_≡_, refl, sym, ap, subst, _∙_}
-use mathlib.Core.List.{List, [], _∷_, _++_, map}
+use mathlib.Core.List.{List, [], _++_, map}
 use native.Mathlib.Nat.{le-refl}
-use lib.ListN.{length, take, drop}
-use Rattle.octets.specs.Outcome.{gives, given}
-use Rattle.octets.specs.Lists.{All}
+use lib.ListN.{length}
+use Rattle.octets.specs.Outcome.{gives}
 use Rattle.octets.proofs.Outcomes.{given-gives, gives-once, then-gives}
 use Rattle.headers.specs.Block.{Header, Among, here, later, parsed, printed}
 use Rattle.scgi.specs.Write.{writeOf}
@@ -21,7 +20,7 @@ use Rattle.variables.specs.Variables.{variables}
 use Rattle.gateway.specs.Step.{bytesOf, Forward, meaningAt, forwardOf}
 use Rattle.gateway.specs.Claims.{BytesExactlyMeaning, WrittenIsAccepted, PoolStands, PoolIsValue}
 use Rattle.variables.proofs.Claims.{variables-say-meaning}
-use Rattle.gateway.proofs.Links.{Lending, lent-of, without-room}
+use Rattle.gateway.proofs.Links.{lent-of, without-room}
 use Rattle.gateway.proofs.Accepted.{one-of, Account, account}
 
 module _ {k : Lent} {http : List ℕ} {f : Forward} (a : Account k http f) where

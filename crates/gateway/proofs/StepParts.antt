@@ -1,6 +1,6 @@
 -- The parts in which the code makes the step are the step.
 -- Assumes nothing.
-use Prim.Native.Nat.{ℕ, min, _+_, _-_, _≤_, _<_}
+use Prim.Native.Nat.{ℕ, _+_, _-_, _≤_, _<_}
 use mathlib.Core.Path.{_≡_, refl, sym, ap, subst, _∙_}
 use mathlib.Core.Bool.{Bool, true, false}
 use mathlib.Core.Option.{Option, none, some}
@@ -9,9 +9,8 @@ use native.Mathlib.Omega.{arith}
 use lib.Dec.{leb}
 use lib.ListN.{length, take, drop, length-append}
 use lib.Seq.{length-take-le, take-append-seam}
-use borrow.Author.Tests.{leb-true, leb-false, le-leb, lt-leb}
+use borrow.Author.Tests.{leb-true, le-leb, lt-leb}
 use Rattle.octets.specs.Outcome.{Outcome, refused, gives, refusalOf, then, need, given}
-use Rattle.octets.specs.Decimal.{cap}
 use Rattle.octets.proofs.Outcomes.{given-gives, gives-once, then-gives, then-same}
 use Rattle.headers.specs.Block.{parsed, printed, wellFormed}
 use Rattle.headers.proofs.Claims.{well-formed-headed}
@@ -29,8 +28,7 @@ use Rattle.lent.specs.Lent.{lentOf}
 use Rattle.variables.specs.Meaning.{Meaning, meaningOf}
 use Rattle.variables.specs.Variables.{variables}
 use Rattle.request.specs.Request.{Request, requestOf}
-use Rattle.gateway.specs.Step.{bytesOf, Body, Forward, bodyOf, writtenFor, forwardOf, stepWith, stepOf}
-use Rattle.request.specs.RequestRead.{cappedRequest}
+use Rattle.gateway.specs.Step.{bytesOf, Forward, bodyOf, writtenFor, forwardOf, stepWith, stepOf}
 use Rattle.variables.specs.Block.{routeAt}
 use Rattle.gateway.specs.Stepping.{Answer, answerOf, steppingOutcome, Stepped, bytesWithin, steppingBy, forwardFrom, headFrom, roomFor}
 use Rattle.gateway.specs.declared.step.Stepping.the-variants.{Refused}
@@ -218,11 +216,11 @@ module _ (s : Settings) (ms : Outcome (List Mount)) (http : List ℕ) (h : ℕ) 
 -- From the head on: 12 to 18.
 
 module _ (s : Settings) (ms : Outcome (List Mount)) (http : List ℕ) (h room : ℕ) where
-  pub head-refused : (k : ℕ) → refused k ≡ then (requestOf (take (h - 4) http)) (λ q. gives (cappedRequest q)) → roomFor room (headFrom s ms http h) ≡ refused k
+  pub head-refused : (k : ℕ) → refused k ≡ requestOf (take (h - 4) http) → roomFor room (headFrom s ms http h) ≡ refused k
   head-refused k e = ap (λ (o : Outcome Request). roomFor room (then o (forwardFrom s ms http h))) (sym e)
 
   pub head-read :
-      (q : Request) → gives q ≡ then (requestOf (take (h - 4) http)) (λ x. gives (cappedRequest x))
+      (q : Request) → gives q ≡ requestOf (take (h - 4) http)
       → roomFor room (headFrom s ms http h) ≡ roomFor room (forwardFrom s ms http h q)
   head-read q e = ap (λ (o : Outcome Request). roomFor room (then o (forwardFrom s ms http h))) (sym e)
 
@@ -232,36 +230,6 @@ pub mounts-formed : (mounts : List ℕ) (ms : List Mount) → mountsAt mounts �
 mounts-formed mounts ms e =
     let g = then-gives (parsed mounts) (λ hs. gives (placed 0 hs)) ms e in
     well-formed-headed mounts .1 (record { hs = g .it; is = g .first })
-
--- every length above the limit gives 9
-body-capped : (http : List ℕ) (h n : ℕ) → bodyOf http h (min n cap) ≡ bodyOf http h n
-unfolding bodyOf
-body-capped http h n = by (leb n 1048576) refl
-  where
-    by : (t : Bool) → leb n 1048576 ≡ t → bodyOf http h (min n cap) ≡ bodyOf http h n
-    by true e =
-        let z : n ≤ 1048576 = leb-true n 1048576 e in
-        let y : min n cap ≡ n = omega arith in
-        ap (bodyOf http h) y
-    by false e =
-        let z : 1048576 < n = leb-false n 1048576 e in
-        rw (e, lt-leb (min n cap) 1048576 (omega arith))
-
-module _ (s : Settings) (ms : List Mount) (http : List ℕ) (h : ℕ) where
-  abbrev rest : Request → Outcome Forward
-  rest q =
-      then (mountFor ms (q .path)) (λ m.
-      then (bodyOf http h (q .bodyLength)) (λ b.
-      writtenFor s m (routeOf m (q .path)) (meaningOf (q .first) (q .fields) (b .body)) (b .used)))
-
-  capped-rest : (o : Outcome Request) → then o rest ≡ then (then o (λ q. gives (cappedRequest q))) (forwardFrom s (gives ms) http h)
-  capped-rest (refused n) = refl
-  capped-rest (gives q) =
-      ap
-      (λ (x : Outcome Body).
-      then (mountFor ms (q .path)) (λ m.
-      then x (λ b. writtenFor s m (routeOf m (q .path)) (meaningOf (q .first) (q .fields) (b .body)) (b .used))))
-      (sym (body-capped http h (q .bodyLength)))
 
 module _ (facts site mounts http : List ℕ) (room : ℕ) where
   pub step-lent : (k : ℕ) → lentOf facts site mounts ≡ refused k → stepOf facts site mounts http room ≡ refused k
@@ -277,4 +245,4 @@ module _ (facts site mounts http : List ℕ) (room : ℕ) where
         (h : ℕ) → mountsAt mounts ≡ gives ms → headOf http ≡ gives h
         → stepOf facts site mounts http room ≡ roomFor room (headFrom s (mountsAt mounts) http h)
     unfolding stepWith forwardOf
-    step-headed h p f = rw (e, f, p) (ap (roomFor room) (capped-rest s ms http h (requestOf (take (h - 4) http))))
+    step-headed h p f = rw (e, f, p)

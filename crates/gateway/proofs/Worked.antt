@@ -89,7 +89,10 @@ further =
     ∷ record { asked = step ("GET /jobs HTTP/1.0" ∷ "Content-Type: a" ∷ "content-type: a" ∷ []) "" 0; answer = forward (refused 17) }
     ∷ record { asked = step ("GET /jobs HTTP/1.0" ∷ "TRANSFER-encoding:" ∷ "Content-Length: 1048577" ∷ []) "" 0; answer = forward (refused 18) }
     ∷ record { asked = step ("GET /jobsx HTTP/1.0" ∷ "Content-Length: 1048577" ∷ []) "" 0; answer = forward (refused 19) }
-    ∷ record { asked = step ("GET /jobs HTTP/1.0" ∷ "Content-Length: 18446744073709551616" ∷ []) "" 0; answer = forward (refused 9) }
+    ∷ record { asked = step ("GET /jobs HTTP/1.0" ∷ "Content-Length: 9999999999" ∷ []) "" 0; answer = forward (refused 9) }
+    ∷ record { asked = step ("GET /jobs HTTP/1.0" ∷ "Content-Length: 99999999999" ∷ []) "" 0; answer = forward (refused 17) }
+    ∷ record { asked = step ("GET /jobs HTTP/1.0" ∷ "Content-Length: 0000000005" ∷ []) "hell" 0; answer = forward (refused 1) }
+    ∷ record { asked = step ("GET /jobsx HTTP/1.0" ∷ "Content-Length: 00000000005" ∷ "Transfer-Encoding:" ∷ []) "" 0; answer = forward (refused 17) }
     ∷ record { asked = step ("GET /jobs HTTP/1.0" ∷ "Content-Length: 5" ∷ []) "hell" 0; answer = forward (refused 1) }
     ∷ record { asked = step ("GET /jobs HTTP/1.0" ∷ "Content-Length: 5" ∷ []) "hello" 0; answer = forward (refused 21) }
     ∷ []

@@ -19,7 +19,7 @@ use Rattle.lent.specs.declared.places.SettingPlaces.{SettingPlaces}
 use Rattle.variables.specs.Meaning.{meaningOf}
 use Rattle.variables.specs.Block.{blockAt, PlacesKnown}
 use Rattle.request.specs.Request.{Request, requestOf}
-use Rattle.request.specs.RequestRead.{cappedRequest, requestIn, LineKnown, FieldsKnown}
+use Rattle.request.specs.RequestRead.{requestIn, LineKnown, FieldsKnown}
 use Rattle.request.specs.declared.read.LinePlaces.{LinePlaces}
 use Rattle.request.specs.declared.read.FieldPlaces.{FieldPlaces}
 use Rattle.gateway.specs.Step.{Forward, bodyOf, writtenFor}
@@ -78,7 +78,7 @@ forwardFrom s mounts http h q =
 
 -- 12 to 18; 19; 9; 1; 22: of a request whose head has h bytes
 abbrev pub headFrom : Settings → Outcome (List Mount) → List ℕ → ℕ → Outcome Forward
-headFrom s mounts http h = then (then (requestOf (take (h - 4) http)) (λ q. gives (cappedRequest q))) (forwardFrom s mounts http h)
+headFrom s mounts http h = then (requestOf (take (h - 4) http)) (forwardFrom s mounts http h)
 
 -- 21
 abbrev pub roomFor : ℕ → Outcome Forward → Outcome Forward

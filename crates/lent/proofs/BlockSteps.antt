@@ -21,7 +21,7 @@ use Rattle.headers.specs.Names.{NamesIn}
 use Rattle.headers.specs.declared.block.HeaderPlace.{HeaderPlace}
 use Rattle.headers.specs.declared.block.HeaderPlace.the-variants.{At, Refused}
 use Rattle.headers.proofs.Claims.{well-formed-headed, headers-few, header-parses}
-use Rattle.lent.specs.Mounts.{Mount, placed, mountsAt, begins}
+use Rattle.lent.specs.Mounts.{placed, mountsAt, begins}
 use Rattle.lent.specs.Lent.{blockOf, ends, isMount, allMounts, mountsOf}
 use Rattle.lent.specs.Blocks.{manyFor, lacksRoom, BlockFound, BlockNamed}
 use Rattle.lent.specs.declared.blocks.Named.the-variants.{Headers}

@@ -13,7 +13,7 @@ use Rattle.octets.specs.Text.{bytes}
 use Rattle.octets.specs.Outcome.{Outcome, refused, gives, then, need, given}
 use Rattle.octets.specs.Lists.{isNil, different}
 use Rattle.octets.proofs.Bools.{and-false}
-use Rattle.octets.proofs.Outcomes.{need-gives, given-gives, then-gives}
+use Rattle.octets.proofs.Outcomes.{need-gives, then-gives}
 use Rattle.headers.specs.Block.{Header, names, headersOf, parsed}
 use Rattle.headers.specs.Lookup.{valueIn}
 use Rattle.headers.specs.Claims.{Headed}

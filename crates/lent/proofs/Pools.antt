@@ -12,7 +12,7 @@ use Rattle.octets.specs.Lists.{All, no-more, _&_}
 use Rattle.octets.proofs.Outcomes.{gives-once, then-gives}
 use Rattle.headers.specs.Block.{Header, printed, parsed}
 use Rattle.headers.proofs.Claims.{printed-parsed}
-use Rattle.lent.specs.Mounts.{Mount, placed, mountsAt}
+use Rattle.lent.specs.Mounts.{placed}
 use Rattle.lent.specs.Claims.{headerAt, PoolsAreValues}
 
 -- headers that are printed in b from i on

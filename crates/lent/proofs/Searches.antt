@@ -1,21 +1,21 @@
 -- Laws of the search for a mount, one try at a time, and of the pools' places.
 -- Assumes nothing.
-use Prim.Native.Nat.{ℕ, _+_, _≤_, _<_}
+use Prim.Native.Nat.{ℕ, _+_, _<_}
 use mathlib.Core.Path.{_≡_, refl, sym, ap, _∙_}
 use mathlib.Core.Bool.{Bool, true, false, cond}
-use mathlib.Core.List.{List, [], _∷_, _++_, map}
+use mathlib.Core.List.{List, [], _∷_}
 use mathlib.Core.Option.{Option, none, some}
 use native.Mathlib.Omega.{arith}
-use lib.ListN.{length, take, drop, length-take}
-use Rattle.octets.specs.Outcome.{Outcome, gives, then, given}
+use lib.ListN.{length, take, length-take}
+use Rattle.octets.specs.Outcome.{gives, then, given}
 use Rattle.octets.specs.Compare.{sameBytes}
 use Rattle.octets.proofs.Compares.{same-true}
-use Rattle.headers.specs.Block.{Header, parsed, wellFormed}
+use Rattle.headers.specs.Block.{Header, wellFormed}
 use Rattle.headers.specs.Lookup.{Part, placeIn, placeOption, lookupOf}
 use Rattle.headers.specs.declared.lookup.Place.{Place}
 use Rattle.headers.specs.Claims.{Headed}
 use Rattle.headers.proofs.Claims.{well-formed-headed}
-use Rattle.lent.specs.Mounts.{Mount, placed, mountsAt, shortened, mountNamed, tried}
+use Rattle.lent.specs.Mounts.{Mount, placed, shortened, mountNamed, tried}
 use Rattle.lent.specs.Search.{placeOf, searchOf, mountOutcome}
 use Rattle.lent.specs.declared.search.Mount.the-variants.{Found, Refused}
 use Rattle.lent.proofs.Mounts.{shortened-shorter, tried-here, tried-last, tried-on}

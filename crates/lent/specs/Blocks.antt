@@ -11,7 +11,6 @@ use Rattle.octets.specs.Outcome.{Outcome, refused, gives, then}
 use Rattle.headers.specs.Block.{Header, headersOf, parsed}
 use Rattle.headers.specs.Names.{NamesIn}
 use Rattle.lent.specs.Lent.{blockOf}
-use Rattle.lent.specs.declared.blocks.Named.{Named}
 use Rattle.lent.specs.declared.blocks.Named.the-variants.{Headers, Breach}
 use Rattle.lent.specs.declared.blocks.Storing.{Storing}
 use Rattle.lent.specs.declared.blocks.Storing.the-variants.{Done, Full}

@@ -1,36 +1,34 @@
 -- One digit more, for the loops that read and write digits.
 -- Assumes nothing.
-use Prim.Native.Nat.{ℕ, min, _+_, _*_, _-_, _/_, _%_, _≤_, _<_}
-use mathlib.Core.Path.{_≡_, refl, sym, ap, _∙_}
-use mathlib.Core.Bool.{Bool, true, false, cond}
-use mathlib.Core.List.{List, [], _∷_}
+use Prim.Native.Nat.{ℕ, suc, _+_, _*_, _-_, _/_, _%_, _≤_, _<_}
+use mathlib.Core.Path.{_≡_, ap, _∙_}
+use mathlib.Core.Bool.{cond}
+use mathlib.Core.List.{List}
 use mathlib.Core.Option.{none, some}
 use native.Mathlib.Omega.{arith}
 use lib.ListN.{length, drop, getD, set, drop-of-length-le}
 use borrow.Author.Tests.{le-leb, lt-leb}
 use Rattle.octets.specs.Kinds.{isDigit}
-use Rattle.octets.specs.Decimal.{numberFrom, cap, capped, decimal}
+use Rattle.octets.specs.Decimal.{numberFrom, decimal}
 use Rattle.octets.specs.Copy.{over}
 use Rattle.octets.proofs.Bools.{and-false}
 use Rattle.octets.proofs.Lists.{next}
 use Rattle.octets.proofs.Copies.{one-byte, last-first}
-use Rattle.octets.proofs.Decimals.{decimal-one, decimal-more, decimal-longer}
+use Rattle.octets.proofs.Decimals.{tenTo, ten-grows, decimal-one, decimal-more, decimal-longer}
 
 -- Reading.
 
--- a number that is told as the cap stays so, whatever digits follow
-pub capped-from : (s : List ℕ) (v : ℕ) → capped (numberFrom (min v cap) s) ≡ capped (numberFrom v s)
-unfolding numberFrom
-capped-from [] v = ap some (omega arith)
-capped-from (b ∷ s) v = by (isDigit b) (capped-from s)
-  where
-    by :
-        (t : Bool) → ((w : ℕ) → capped (numberFrom (min w cap) s) ≡ capped (numberFrom w s))
-        → capped (cond t (numberFrom (min v cap * 10 + (b - 48)) s) none) ≡ capped (cond t (numberFrom (v * 10 + (b - 48)) s) none)
-    by true ih =
-        let e : min (min v cap * 10 + (b - 48)) cap ≡ min (v * 10 + (b - 48)) cap = omega arith in
-        sym (ih (min v cap * 10 + (b - 48))) ∙ ap (λ (w : ℕ). capped (numberFrom w s)) e ∙ ih (v * 10 + (b - 48))
-    by false ih = refl
+-- a digit more after a number of at most i digits
+pub ten-more : (i v d : ℕ) → v < tenTo i → d ≤ 9 → v * 10 + d < tenTo (i + 1)
+unfolding tenTo
+ten-more i v d h l =
+    let z : i + 1 ≡ suc i = omega arith in
+    rw z (omega arith)
+
+-- a number of fewer than 10 digits has room for one more in 64 bits
+pub ten-most : (i v : ℕ) → v < tenTo i → i < 10 → v < 1000000000
+unfolding tenTo
+ten-most i v h l = omega (arith, ten-grows i 9 (omega arith))
 
 -- one byte more at i, after the number v
 module _ (s : List ℕ) (i v : ℕ) (h : i < length s) where
@@ -46,21 +44,14 @@ module _ (s : List ℕ) (i v : ℕ) (h : i < length s) where
   unfolding isDigit
   above-digits l = number-next ∙ rw (lt-leb (getD s i 0) 57 l, and-false)
 
-  pub digit-more :
-      48 ≤ getD s i 0 → getD s i 0 ≤ 57
-      → capped (numberFrom v (drop i s)) ≡ capped (numberFrom (min (v * 10 + (getD s i 0 - 48)) cap) (drop (i + 1) s))
+  pub digit-more : 48 ≤ getD s i 0 → getD s i 0 ≤ 57 → numberFrom v (drop i s) ≡ numberFrom (v * 10 + (getD s i 0 - 48)) (drop (i + 1) s)
   unfolding isDigit
-  digit-more lo hi =
-      let e : numberFrom v (drop i s) ≡ numberFrom (v * 10 + (getD s i 0 - 48)) (drop (i + 1) s) =
-      number-next ∙ rw (le-leb 48 (getD s i 0) lo, le-leb (getD s i 0) 57 hi) in
-      ap capped e ∙ sym (capped-from (drop (i + 1) s) (v * 10 + (getD s i 0 - 48)))
+  digit-more lo hi = number-next ∙ rw (le-leb 48 (getD s i 0) lo, le-leb (getD s i 0) 57 hi)
 
 -- no byte is left after the number v
-pub number-end : (s : List ℕ) (i v : ℕ) → length s ≤ i → v ≤ cap → capped (numberFrom v (drop i s)) ≡ some v
+pub number-end : (s : List ℕ) (i v : ℕ) → length s ≤ i → numberFrom v (drop i s) ≡ some v
 unfolding numberFrom
-number-end s i v h m =
-    let e : min v cap ≡ v = omega arith in
-    rw (drop-of-length-le s h) (ap some e)
+number-end s i v h = rw (drop-of-length-le s h)
 
 -- Writing, from the last digit down: the digits of m end at i.
 

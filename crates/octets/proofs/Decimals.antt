@@ -3,17 +3,17 @@
 use Prim.Native.Nat.{ℕ, zero, suc, _+_, _*_, _-_, _/_, _%_, _≤_, _<_}
 use Prim.{absurd}
 use mathlib.Core.Path.{_≡_, refl, sym, ap, _∙_}
-use mathlib.Core.Bool.{Bool, true, false, cond}
+use mathlib.Core.Bool.{Bool, true, false, cond, _&&_}
 use mathlib.Core.List.{List, [], _∷_, _++_}
 use mathlib.Core.Option.{none, some}
 use native.Mathlib.Omega.{arith}
 use lib.Dec.{leb, ltb, eqb}
 use lib.ListN.{length, length-append}
-use borrow.Author.Tests.{ltb-true, ltb-false, lt-ltb, le-ltb, le-leb, leb-true, eqb-true, eqb-false}
+use borrow.Author.Tests.{ltb-true, ltb-false, lt-ltb, le-ltb, le-leb, lt-leb, leb-true, eqb-true, eqb-false}
 use Rattle.octets.specs.Kinds.{isDigit}
 use Rattle.octets.specs.Scan.{allOf}
 use Rattle.octets.specs.Decimal.{numberFrom, numberOf, digitsIn, decimal, Says, plain, zero-before}
-use Rattle.octets.proofs.Bools.{and-left, and-right}
+use Rattle.octets.proofs.Bools.{and-left, and-right, and-false}
 
 -- what holds of the digits of n in front of s: of n below 10, and of n from those of n / 10 in front of one more digit
 pub digits :
@@ -110,23 +110,24 @@ number-decimal n =
     (λ n s t h ih. ih ∙ number-digit (n / 10) (n % 10) n s (omega arith) (omega arith))
     n n [] (omega arith)
 
-pub number-some : (s : List ℕ) → 0 < length s → numberOf s ≡ numberFrom 0 s
-number-some [] h = absurd (omega arith)
-number-some (b ∷ s) h = refl
+pub number-some : (s : List ℕ) → 0 < length s → length s ≤ 10 → numberOf s ≡ numberFrom 0 s
+number-some s h l = rw (le-leb 1 (length s) h, le-leb (length s) 10 l)
 
 pub number-empty : (s : List ℕ) → length s ≡ 0 → numberOf s ≡ none
-number-empty [] h = refl
-number-empty (b ∷ s) h = absurd (omega arith)
+number-empty s h = rw h
+
+pub number-long : (s : List ℕ) → 10 < length s → numberOf s ≡ none
+number-long s h = rw (lt-leb (length s) 10 h, and-false)
 
 says-number : {n : ℕ} {v : List ℕ} → Says n v → (0 < length v) × (numberFrom 0 v ≡ some n)
 unfolding numberFrom isDigit
 says-number {n} plain = (decimal-some n, number-decimal n)
 says-number (zero-before p) = (omega arith, says-number p .1)
 
-pub number-of-says : (n : ℕ) (v : List ℕ) → Says n v → numberOf v ≡ some n
-number-of-says n v p =
+pub number-of-says : (n : ℕ) (v : List ℕ) → Says n v → length v ≤ 10 → numberOf v ≡ some n
+number-of-says n v p l =
     let r = says-number p in
-    number-some v (r .0) ∙ r .1
+    number-some v (r .0) l ∙ r .1
 
 record Digit (b : ℕ) (s : List ℕ) (v n : ℕ) : Type 0 where
   low : 48 ≤ b
@@ -188,9 +189,19 @@ says-from [] b n e =
     rw (← z, ← only-zero) plain)
 says-from (c ∷ s) b n e = lead (c ∷ s) b n e (λ f. zero-before (says-from s c n f))
 
-pub says-of-number : (n : ℕ) (v : List ℕ) → numberOf v ≡ some n → Says n v
-says-of-number n [] e = absurd (let z : _≡_ {A = ℕ} 0 1 = cc in omega arith)
-says-of-number n (b ∷ v) e = says-from v b n e
+says-some : (n : ℕ) (v : List ℕ) → 0 < length v → numberFrom 0 v ≡ some n → Says n v
+says-some n [] h e = absurd (omega arith)
+says-some n (b ∷ v) h e = says-from v b n e
+
+pub says-of-number : (n : ℕ) (v : List ℕ) → numberOf v ≡ some n → Says n v × (length v ≤ 10)
+says-of-number n v = by (leb 1 (length v)) (leb (length v) 10) refl refl
+  where
+    by :
+        (t u : Bool) → leb 1 (length v) ≡ t → leb (length v) 10 ≡ u
+        → cond (t && u) (numberFrom 0 v) none ≡ some n → Says n v × (length v ≤ 10)
+    by true true p q e = (says-some n v (leb-true 1 (length v) p) e, leb-true (length v) 10 q)
+    by true false p q e = absurd (let z : _≡_ {A = ℕ} 0 1 = cc in omega arith)
+    by false u p q e = absurd (let z : _≡_ {A = ℕ} 0 1 = cc in omega arith)
 
 -- The decimal of a number from that of its tenth.
 
@@ -228,23 +239,34 @@ one-more-digit m k h p n l = by (ltb n 10) refl
         let b : 10 ≤ n = ltb-false n 10 t in
         omega (arith, decimal-longer n b, h (n / 10) (omega arith))
 
--- 10 to the power of k, for k from 1 on
-unfoldable tens : ℕ → ℕ
-tens zero = 10
-tens (suc k) = tens k * 10
+-- 10 to the power of k
+unfoldable pub tenTo : ℕ → ℕ
+tenTo zero = 1
+tenTo (suc k) = tenTo k * 10
 
-at-most : (k : ℕ) → AtMost (tens k) (k + 1)
-unfolding tens
+pub ten-grows : (i k : ℕ) → i ≤ k → tenTo i ≤ tenTo k
+unfolding tenTo
+ten-grows zero zero h = omega arith
+ten-grows zero (suc k) h = omega (arith, ten-grows zero k (omega arith))
+ten-grows (suc i) zero h = absurd (omega arith)
+ten-grows (suc i) (suc k) h = omega (arith, ten-grows i k (omega arith))
+
+at-most : (k : ℕ) → AtMost (tenTo (suc k)) (suc k)
+unfolding tenTo
 at-most zero n h = omega (arith, ap length (decimal-one n h))
-at-most (suc k) n h = omega (arith, one-more-digit (tens k) (k + 1) (at-most k) (omega arith) n h)
+at-most (suc k) n h = omega (arith, one-more-digit (tenTo (suc k)) (suc k) (at-most k) (omega arith) n h)
 
 pub five-digits : (n : ℕ) → n < 100000 → length (decimal n) ≤ 5
-unfolding tens
+unfolding tenTo
 five-digits = at-most 4
+
+pub ten-digits : (n : ℕ) → n < 10000000000 → length (decimal n) ≤ 10
+unfolding tenTo
+ten-digits = at-most 9
 
 -- of a number of 64 bits
 pub twenty-digits : (n : ℕ) → n < 18446744073709551616 → length (decimal n) ≤ 20
-unfolding tens
+unfolding tenTo
 twenty-digits n h =
     let t : length (decimal n) ≤ 20 = at-most 19 n (omega arith) in
     t

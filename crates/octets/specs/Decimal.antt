@@ -1,11 +1,12 @@
 -- Numbers in decimal, read and written.
 -- Assumes nothing.
-use Prim.Native.Nat.{ℕ, zero, suc, min, _+_, _*_, _-_, _/_, _%_}
+use Prim.Native.Nat.{ℕ, zero, suc, _+_, _*_, _-_, _/_, _%_}
 use mathlib.Core.Bool.{cond}
 use mathlib.Core.List.{List, [], _∷_}
 use mathlib.Core.Option.{Option, none, some}
 use lib.Dec.{ltb}
-use Rattle.octets.specs.Kinds.{isDigit}
+use lib.ListN.{length}
+use Rattle.octets.specs.Kinds.{isDigit, within}
 use Rattle.octets.specs.declared.decimal.Number.{Number}
 use Rattle.octets.specs.declared.decimal.Number.the-variants.{Value, Malformed}
 
@@ -14,23 +15,14 @@ unfoldable pub numberFrom : ℕ → List ℕ → Option ℕ
 numberFrom v [] = some v
 numberFrom v (b ∷ s) = cond (isDigit b) (numberFrom (v * 10 + (b - 48)) s) none
 
--- the number that one or more digits say; leading zeros are allowed, and any count of digits
+-- the number that 1 to 10 digits say, zeros in front among them. 02 §2: "a decimal number read has at most 10 digits"
 abbrev pub numberOf : List ℕ → Option ℕ
-numberOf [] = none
-numberOf (b ∷ s) = numberFrom 0 (b ∷ s)
+numberOf s = cond (within 1 10 (length s)) (numberFrom 0 s) none
 
 -- what the code's answer says
 abbrev pub numberRead : Number → Option ℕ
 numberRead (Value n) = some n
 numberRead Malformed = none
-
--- a number up to the largest limit of 01, 1,048,576, is told as it is, and each one above it as 1,048,577
-abbrev pub cap : ℕ
-cap = 1048577
-
-abbrev pub capped : Option ℕ → Option ℕ
-capped none = none
-capped (some n) = some (min n cap)
 
 -- the digits of n in front of s, n not above k
 unfoldable pub digitsIn : ℕ → ℕ → List ℕ → List ℕ

@@ -1,23 +1,25 @@
 // Numbers in decimal: read, counted, written.
 ghost use mathlib.Core.Path.{_≡_};
-ghost use Prim.Native.Nat.{min, _+_, _*_, _≤_};
+ghost use Prim.Native.Nat.{_+_, _≤_};
 ghost use lib.ListN.{length};
-ghost use Rattle.octets.specs.Decimal.{numberOf, decimal, numberRead, capped};
+ghost use Rattle.octets.specs.Decimal.{numberOf, decimal, numberRead};
 ghost use Rattle.octets.specs.Copy.{Wrote};
 
 // What digits say.
 pub enum Number {
-    // The number, or 1,048,577 for every number above 1,048,576, the largest limit there is.
     Value(u64),
-    // Not one or more digits.
+    // Not 1 to 10 digits.
     Malformed,
 }
 
-// The number that s says in decimal, with any count of digits and leading zeros.
+// The number that s says in 1 to 10 digits, zeros in front among them.
 pub fn read(s: &[u8]) -> Number
-    ensures { λ r. ⌜ numberRead r ≡ capped (numberOf (now (s .entry))) ⌝ }
+    ensures { λ r. ⌜ numberRead r ≡ numberOf (now (s .entry)) ⌝ }
 {
     if s.len() == 0 {
+        return Number::Malformed;
+    }
+    if 10 < s.len() {
         return Number::Malformed;
     }
     let mut v: u64 = 0;
@@ -30,22 +32,10 @@ pub fn read(s: &[u8]) -> Number
         if b'9' < b {
             return Number::Malformed;
         }
-        v = one_more(v, b - b'0');
+        v = v * 10 + (b - b'0') as u64;
         i += 1;
     }
     Number::Value(v)
-}
-
-// The number v with the digit d after it, not above 1,048,577.
-fn one_more(v: u64, d: u8) -> u64
-    requires { ⌜ (v ≤ 1048577) × (d ≤ 9) ⌝ }
-    ensures { λ r. ⌜ r ≡ min (v * 10 + d) 1048577 ⌝ }
-{
-    let n = v * 10 + d as u64;
-    if 1048577 < n {
-        return 1048577;
-    }
-    n
 }
 
 // How many digits n has in decimal.

@@ -11,7 +11,7 @@ use native.Mathlib.Omega.{arith}
 use lib.Dec.{eqb, ltb}
 use lib.ListN.{length, take, drop, getD, length-append, List·getD-append}
 use borrow.Author.Tests.{lt-ltb, eqb-true, eqb-false}
-use Rattle.octets.specs.Compare.{sameBytes, lowerOf, sameLetters}
+use Rattle.octets.specs.Compare.{lowerOf, sameLetters}
 use Rattle.http.specs.Fields.{Field, fieldAt, fieldsAt, Inside, AllInside}
 use Rattle.request.specs.Named.{lowered, valuesOf, firstOf}
 use Rattle.request.specs.Rules.{withField, foundOf}

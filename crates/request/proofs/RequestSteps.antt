@@ -5,12 +5,11 @@ use Prim.{absurd}
 use mathlib.Core.Path.{_≡_, refl, sym, ap, _∙_}
 use mathlib.Core.Bool.{Bool, true, false, cond, _||_, false≢true}
 use mathlib.Core.List.{List, [], _∷_}
-use native.Mathlib.Nat.{sub-zero}
 use native.Mathlib.Omega.{arith}
-use lib.ListN.{length, take, drop, getD, length-take, length-drop}
+use lib.ListN.{length, take, drop, length-take, length-drop}
 use lib.Seq.{length-take-le}
 use Rattle.octets.specs.Text.{bytes}
-use Rattle.octets.specs.Outcome.{Outcome, refused, gives, then, need}
+use Rattle.octets.specs.Outcome.{Outcome, refused, gives, then}
 use Rattle.octets.specs.Kinds.{isName}
 use Rattle.octets.specs.Compare.{sameBytes}
 use Rattle.octets.specs.Copy.{over}
@@ -26,14 +25,13 @@ use Rattle.http.specs.declared.request_line.RequestLine.the-variants.{Line, Ref
 use Rattle.http.specs.declared.fields.Fields.the-variants.{Count, Refused as FieldsRefused}
 use Rattle.http.proofs.Claims.{first-line-stands, line-is-made, lines-told, fields-told}
 use Rattle.targets.specs.Escape.{decoded}
-use Rattle.targets.specs.Target.{Target, pathOf, rawRight, targetOf, Lengths, lengthsOf, written, TargetRead}
+use Rattle.targets.specs.Target.{Target, pathOf, rawRight, targetOf, Lengths, written, TargetRead}
 use Rattle.targets.specs.declared.target.TargetPlace.the-variants.{Path, Refused as TargetRefused}
 use Rattle.targets.proofs.Claims.{targets-told}
 use Rattle.request.specs.Named.{lowered}
-use Rattle.request.specs.Request.{Request, rulesOf, requestOf}
-use Rattle.request.specs.Rules.{foundOf, cappedOutcome, Judged, judged, judgedOf}
-use Rattle.request.specs.RequestRead.{Start, startOf, minorOf, linePlaced, targetIn, LineRead, Stating, statingOf, fieldsPlaced, FieldsRead, cappedRequest, Placed, placedIn, RequestRead}
-use Rattle.request.specs.declared.rules.Found.{Found}
+use Rattle.request.specs.Request.{rulesOf, requestOf}
+use Rattle.request.specs.Rules.{foundOf, Judged, judged, judgedOf}
+use Rattle.request.specs.RequestRead.{Start, startOf, minorOf, linePlaced, LineRead, Stating, statingOf, fieldsPlaced, FieldsRead, Placed, placedIn, RequestRead}
 use Rattle.request.specs.declared.read.LinePlaces.{LinePlaces}
 use Rattle.request.specs.declared.read.Line.the-variants.{At as LineAt, Refused as LineRefused}
 use Rattle.request.specs.declared.read.FieldPlaces.{FieldPlaces}
@@ -158,7 +156,7 @@ ends-at head before after line l =
 
 abbrev statingWith : List ℕ → List ℕ → Outcome (List Field) → Outcome FieldPlaces
 statingWith head version o =
-    then (then o (λ fields. then (cappedOutcome (rulesOf version (lowered fields))) (λ n. gives (record { fields = fields; bodyLength = n })))) (λ g. gives (fieldsPlaced head g))
+    then (then o (λ fields. then (rulesOf version (lowered fields)) (λ n. gives (record { fields = fields; bodyLength = n })))) (λ g. gives (fieldsPlaced head g))
 
 -- four numbers are stored for each line
 places-length : (at : ℕ) (ls : List (List ℕ)) → length (placesFrom at ls) ≡ 4 * length ls
@@ -200,7 +198,7 @@ module _ (head version before after : List ℕ) where
 
     pub bad-rules : (k : ℕ) → refused k ≡ judgedOf version head after n → FieldsRead head version before after (RestRefused k)
     bad-rules k r =
-        let e : cappedOutcome (rulesOf version (lowered fields)) ≡ refused k = refused-so (cappedOutcome (rulesOf version (lowered fields))) _ k r in
+        let e : rulesOf version (lowered fields) ≡ refused k = refused-so (rulesOf version (lowered fields)) _ k r in
         record { answer = sym (ap statingFrom e) ∙ ap (statingWith head version) (stand head before after n s .answer); numbers = tt }
 
     pub fields-read-whole :
@@ -208,7 +206,7 @@ module _ (head version before after : List ℕ) where
         → FieldsRead head version before after (FieldsAt (record { count = n; body = len; typed = there; start = a; len = b }))
     fields-read-whole len there a b r =
         record {
-          answer = placed (cappedOutcome (rulesOf version (lowered fields))) r ∙ ap (statingWith head version) (stand head before after n s .answer);
+          answer = placed (rulesOf version (lowered fields)) r ∙ ap (statingWith head version) (stand head before after n s .answer);
           numbers = s .numbers;
         }
       where
@@ -233,31 +231,31 @@ placedBy head s g = record { line = linePlaced head s; fields = fieldsPlaced hea
 -- the chain of a request is that of its line, and then that of its fields
 chain :
     (head : List ℕ) (o : Outcome FirstLine) (F : FirstLine → Outcome Target) (G : Outcome (List Field)) (R : List ℕ → List Field → Outcome ℕ)
-    → then (then o (λ first. then (F first) (λ target. then G (λ fields. then (R (first .version) fields) (λ n. gives (record { first = first; path = target .path; fields = fields; bodyLength = n })))))) (λ q. gives (placedIn head (cappedRequest q)))
+    → then (then o (λ first. then (F first) (λ target. then G (λ fields. then (R (first .version) fields) (λ n. gives (record { first = first; path = target .path; fields = fields; bodyLength = n })))))) (λ q. gives (placedIn head q))
     ≡ then (then o (λ first. then (F first) (λ target. gives (record { first = first; path = target .path }))))
-    (λ s. then (then G (λ fields. then (cappedOutcome (R (s .first .version) fields)) (λ n. gives (record { fields = fields; bodyLength = n })))) (λ g. gives (placedBy head s g)))
+    (λ s. then (then G (λ fields. then (R (s .first .version) fields) (λ n. gives (record { fields = fields; bodyLength = n })))) (λ g. gives (placedBy head s g)))
 chain head (refused n) F G R = refl
 chain head (gives first) F G R = by (F first) G
   where
     rules :
         (target : Target) (fields : List Field) (o : Outcome ℕ)
-        → then (then o (λ n. gives (record { first = first; path = target .path; fields = fields; bodyLength = n }))) (λ q. gives (placedIn head (cappedRequest q)))
-        ≡ then (then (cappedOutcome o) (λ n. gives (record { fields = fields; bodyLength = n }))) (λ g. gives (placedBy head (record { first = first; path = target .path }) g))
+        → then (then o (λ n. gives (record { first = first; path = target .path; fields = fields; bodyLength = n }))) (λ q. gives (placedIn head q))
+        ≡ then (then o (λ n. gives (record { fields = fields; bodyLength = n }))) (λ g. gives (placedBy head (record { first = first; path = target .path }) g))
     rules target fields (refused n) = refl
     rules target fields (gives n) = refl
 
     by :
         (o : Outcome Target) (G : Outcome (List Field))
-        → then (then o (λ target. then G (λ fields. then (R (first .version) fields) (λ n. gives (record { first = first; path = target .path; fields = fields; bodyLength = n }))))) (λ q. gives (placedIn head (cappedRequest q)))
+        → then (then o (λ target. then G (λ fields. then (R (first .version) fields) (λ n. gives (record { first = first; path = target .path; fields = fields; bodyLength = n }))))) (λ q. gives (placedIn head q))
         ≡ then (then o (λ target. gives (record { first = first; path = target .path })))
-        (λ s. then (then G (λ fields. then (cappedOutcome (R (s .first .version) fields)) (λ n. gives (record { fields = fields; bodyLength = n })))) (λ g. gives (placedBy head s g)))
+        (λ s. then (then G (λ fields. then (R (s .first .version) fields) (λ n. gives (record { fields = fields; bodyLength = n })))) (λ g. gives (placedBy head s g)))
     by (refused n) G = refl
     by (gives target) (refused n) = refl
     by (gives target) (gives fields) = rules target fields (R (first .version) fields)
 
 module _ (head : List ℕ) where
   whole :
-      then (requestOf head) (λ q. gives (placedIn head (cappedRequest q)))
+      then (requestOf head) (λ q. gives (placedIn head q))
       ≡ then (startOf head) (λ s. then (statingOf head (s .first .version)) (λ g. gives (placedBy head s g)))
   unfolding requestOf
   whole =
@@ -295,7 +293,7 @@ module _ (head : List ℕ) where
       stating-is : statingOf head (versionText (line .minor)) ≡ statingOf head (started .it .first .version)
       stating-is = ap (statingOf head) version-is
 
-      whole-from : then (requestOf head) (λ q. gives (placedIn head (cappedRequest q))) ≡ then (statingOf head (versionText (line .minor))) (λ g. gives (placedBy head (started .it) g))
+      whole-from : then (requestOf head) (λ q. gives (placedIn head q)) ≡ then (statingOf head (versionText (line .minor))) (λ g. gives (placedBy head (started .it) g))
       whole-from =
           whole ∙ ap withFields (started .first)
           ∙ ap (λ (o : Outcome Stating). then o (λ g. gives (placedBy head (started .it) g))) (sym stating-is)

@@ -1,9 +1,9 @@
 -- What an accepted request obeys, which numbers a refused one has, and what stands at the places that an answer tells.
 -- Assumes nothing.
-use Prim.Native.Nat.{ℕ, min, _+_, _≤_}
+use Prim.Native.Nat.{ℕ, _+_, _≤_}
 use mathlib.Core.Path.{_≡_, refl, sym, ap, _∙_}
 use mathlib.Core.Bool.{true}
-use mathlib.Core.List.{List, [], _∷_, _++_}
+use mathlib.Core.List.{List, [], _∷_}
 use native.Mathlib.Omega.{arith}
 use lib.Dec.{eqb, leb, ltb}
 use lib.ListN.{length, take, drop, length-take, length-append}
@@ -12,29 +12,27 @@ use Rattle.octets.specs.Text.{bytes}
 use Rattle.octets.specs.Outcome.{Outcome, refused, gives, then}
 use Rattle.octets.specs.Kinds.{oneOf, isName}
 use Rattle.octets.specs.Scan.{allOf}
-use Rattle.octets.specs.Decimal.{cap, numberOf}
+use Rattle.octets.specs.Decimal.{numberOf}
 use Rattle.octets.specs.Copy.{over}
 use Rattle.octets.proofs.Lists.{part-take}
-use Rattle.octets.proofs.Outcomes.{Gave, gives-once, then-gives}
+use Rattle.octets.proofs.Outcomes.{gives-once, then-gives}
 use Rattle.octets.proofs.Refusals.{Refuses, with-number, not-refused, number-of, refuses-within, refuses-then, refuses-need, refuses-given}
 use Rattle.http.specs.Lines.{linesOf, lineRun}
-use Rattle.http.specs.RequestLine.{FirstLine, requestLineOf, versionText, linePlaces, linePlacesOf, lineOutcome}
+use Rattle.http.specs.RequestLine.{FirstLine, requestLineOf, versionText, linePlaces}
 use Rattle.http.specs.Fields.{Field, fieldsOf, placesOf, fieldsAt, Stored}
 use Rattle.http.specs.Claims.{LineStands, FieldsStand}
-use Rattle.http.specs.declared.request_line.RequestLine.the-variants.{Line}
 use Rattle.http.specs.declared.fields.Fields.the-variants.{Count}
 use Rattle.http.proofs.Claims as Http
 use Rattle.http.proofs.Claims.{first-line-stands, line-is-made, lines-told, fields-obey, fields-told}
 use Rattle.targets.specs.Escape.{decoded}
-use Rattle.targets.specs.Target.{Target, pathOf, queryOf, targetOf, written, TargetRead}
+use Rattle.targets.specs.Target.{Target, pathOf, queryOf, targetOf, written}
 use Rattle.targets.specs.Claims.{Told}
-use Rattle.targets.specs.declared.target.TargetPlace.the-variants.{Path}
 use Rattle.targets.proofs.Claims as Targets
 use Rattle.targets.proofs.Claims.{targets-obey, targets-told}
-use Rattle.request.specs.Named.{lowered, valuesOf, firstOf}
+use Rattle.request.specs.Named.{lowered, valuesOf}
 use Rattle.request.specs.Request.{hostRight, statedBy, contentOf, rulesOf, Request, requestOf}
 use Rattle.request.specs.Rules.{foundOf}
-use Rattle.request.specs.RequestRead.{minorOf, linePlaced, targetIn, fieldsPlaced, cappedRequest, Placed, placedIn, RequestRead, lineIn, pathIn, requestIn, partIf, LineKnown, FieldsKnown}
+use Rattle.request.specs.RequestRead.{targetIn, Placed, placedIn, RequestRead, lineIn, pathIn, partIf, LineKnown, FieldsKnown}
 use Rattle.request.specs.Claims.{Obeys, RequestStands, requestNumbers, NumbersHold}
 use Rattle.request.specs.declared.rules.Found.{Found}
 use Rattle.request.specs.declared.read.LinePlaces.{LinePlaces}
@@ -116,10 +114,8 @@ front-inside d w = simp length-append (omega arith)
 
 pub refuses :
     (head places places′ path path′ : List ℕ) (n : ℕ) → RequestRead head places places′ path path′ (Refused n)
-    → refused n ≡ then (requestOf head) (λ q. gives (cappedRequest q))
-refuses head places places′ path path′ n r =
-    let e : requestOf head ≡ refused n = refused-so (requestOf head) (λ q. placedIn head (cappedRequest q)) n (r .answer) in
-    sym (ap (λ (o : Outcome Request). then o (λ q. gives (cappedRequest q))) e)
+    → refused n ≡ requestOf head
+refuses head places places′ path path′ n r = sym (refused-so (requestOf head) (placedIn head) n (r .answer))
 
 -- of a request q, whose parts' places are l and f
 module _ (head places places′ path path′ : List ℕ) (q : Request) (gave : requestOf head ≡ gives q) where
@@ -130,10 +126,10 @@ module _ (head places places′ path path′ : List ℕ) (q : Request) (gave : r
   line = take (lineRun head) head
 
   abbrev l : LinePlaces
-  l = placedIn head (cappedRequest q) .line
+  l = placedIn head q .line
 
   abbrev f : FieldPlaces
-  f = placedIn head (cappedRequest q) .fields
+  f = placedIn head q .fields
 
   line-read : requestLineOf line ≡ gives (q .first)
   line-read = ap requestLineOf (sym (first-line-stands .first head)) ∙ line-is-made (linesOf head .first) (q .first) .1 (o .line)
@@ -224,7 +220,7 @@ module _ (head places places′ path path′ : List ℕ) (q : Request) (gave : r
       request-stands : RequestStands head places′ path′ l f
       request-stands =
           record {
-            answer = ap gives (same line-is path-is fields-are) ∙ sym (ap (λ (x : Outcome Request). then x (λ y. gives (cappedRequest y))) gave);
+            answer = ap gives (same line-is path-is fields-are) ∙ sym gave;
             line = line-known;
             fields = fields-known;
           }
@@ -238,11 +234,11 @@ pub accepts :
     (head places places′ path path′ : List ℕ) (at : LinePlaces) (fields : FieldPlaces)
     → RequestRead head places places′ path path′ (ReadRequest at fields) → RequestStands head places′ path′ at fields
 accepts head places places′ path path′ at fields r =
-    let g = then-gives (requestOf head) (λ q. gives (placedIn head (cappedRequest q))) (record { line = at; fields = fields }) (sym (r .answer)) in
-    let e : placedIn head (cappedRequest (g .it)) ≡ record { line = at; fields = fields } = gives-once _ (record { line = at; fields = fields }) (g .next) in
+    let g = then-gives (requestOf head) (λ q. gives (placedIn head q)) (record { line = at; fields = fields }) (sym (r .answer)) in
+    let e : placedIn head (g .it) ≡ record { line = at; fields = fields } = gives-once _ (record { line = at; fields = fields }) (g .next) in
     told-by (g .it) (g .first) at fields (ap (λ (p : Placed). p .line) e) (ap (λ (p : Placed). p .fields) e) (r .stored .1) (r .stored .0)
   where
     told-by :
-        (q : Request) → requestOf head ≡ gives q → (at : LinePlaces) (fields : FieldPlaces) → placedIn head (cappedRequest q) .line ≡ at → placedIn head (cappedRequest q) .fields ≡ fields
+        (q : Request) → requestOf head ≡ gives q → (at : LinePlaces) (fields : FieldPlaces) → placedIn head q .line ≡ at → placedIn head q .fields ≡ fields
         → path′ ≡ over path 0 (decoded (pathOf (targetIn head at))) → places′ ≡ over places 0 (placesOf head) → RequestStands head places′ path′ at fields
     told-by q gave at fields a b buffer numbers = rw (← a, ← b) (request-stands head places places′ path path′ q gave (rw (← a) at buffer) numbers)

@@ -5,7 +5,7 @@ use Prim.{absurd}
 use mathlib.Core.Path.{_≡_, refl, sym, ap, _∙_}
 use mathlib.Core.Bool.{Bool, true, false}
 use mathlib.Core.List.{List, [], _∷_, map}
-use mathlib.Core.Option.{Option, none, some}
+use mathlib.Core.Option.{some}
 use native.Mathlib.Omega.{arith}
 use lib.Dec.{eqb, leb, ltb}
 use lib.ListN.{length, take, drop}
@@ -13,12 +13,12 @@ use borrow.Author.Tests.{ne-eqb, eq-eqb, le-leb, lt-leb, lt-ltb}
 use Rattle.octets.specs.Text.{bytes}
 use Rattle.octets.specs.Outcome.{Outcome, refused, gives, then, need, given}
 use Rattle.octets.specs.Compare.{sameBytes, lowerOf}
-use Rattle.octets.specs.Decimal.{capped, numberOf}
+use Rattle.octets.specs.Decimal.{numberOf}
 use Rattle.http.specs.RequestLine.{versionText}
 use Rattle.http.specs.Fields.{Field, fieldsAt, AllInside}
 use Rattle.request.specs.Named.{lowered, valuesOf}
 use Rattle.request.specs.Request.{hostRight, statedBy, contentOf, rulesOf}
-use Rattle.request.specs.Rules.{foundOf, cappedOutcome, judged, judgedOf}
+use Rattle.request.specs.Rules.{foundOf, judged, judgedOf}
 use Rattle.request.specs.RequestRead.{partIf}
 use Rattle.request.specs.declared.rules.Found.{Found}
 use Rattle.request.proofs.NamedFields.{FoundIn, found-in}
@@ -69,37 +69,33 @@ module _ (fs : List Field) {head : List ℕ} {r : Found} (f : FoundIn head (valu
 
 -- The stated body length.
 
-capped-given : (o : Option ℕ) → cappedOutcome (given o 17) ≡ given (capped o) 17
-capped-given none = refl
-capped-given (some n) = refl
-
 module _ {head : List ℕ} {r : Found} where
-  pub states-none : (vs : List (List ℕ)) → FoundIn head vs r → r .count ≡ 0 → cappedOutcome (statedBy vs) ≡ gives 0
+  pub states-none : (vs : List (List ℕ)) → FoundIn head vs r → r .count ≡ 0 → statedBy vs ≡ gives 0
   states-none [] f z = refl
   states-none (v ∷ vs) f z = absurd (omega (arith, f .count-is))
 
-  pub states-two : (vs : List (List ℕ)) → FoundIn head vs r → 1 < r .count → cappedOutcome (statedBy vs) ≡ refused 17
+  pub states-two : (vs : List (List ℕ)) → FoundIn head vs r → 1 < r .count → statedBy vs ≡ refused 17
   states-two [] f h = absurd (omega (arith, f .count-is))
   states-two (v ∷ []) f h = absurd (omega (arith, f .count-is))
   states-two (v ∷ (w ∷ vs)) f h = refl
 
   pub states-one :
       (vs : List (List ℕ)) → FoundIn head vs r → (r .count ≡ 0 → ⊥) → r .count ≤ 1
-      → cappedOutcome (statedBy vs) ≡ given (capped (numberOf (take (r .len) (drop (r .start) head)))) 17
+      → statedBy vs ≡ given (numberOf (take (r .len) (drop (r .start) head))) 17
   states-one [] f z h = absurd (z (f .count-is))
   states-one (v ∷ (w ∷ vs)) f z h = absurd (omega (arith, f .count-is))
   states-one (v ∷ []) f z h =
       let p : ltb 0 (r .count) ≡ true = lt-ltb 0 (r .count) (omega arith) in
       let e : some v ≡ some (take (r .len) (drop (r .start) head)) = f .first-is ∙ ap (λ (t : Bool). partIf t head (r .start) (r .len)) p in
       let q : v ≡ take (r .len) (drop (r .start) head) = cc in
-      capped-given (numberOf v) ∙ ap (λ (s : List ℕ). given (capped (numberOf s)) 17) q
+      ap (λ (s : List ℕ). given (numberOf s) 17) q
 
 -- The whole chain.
 
 chain :
     (h : Bool) (o : Outcome ℕ) (t e : Bool)
-    → cappedOutcome (need h 16 (then (then o (λ n. need t 17 (gives n))) (λ n. need e 18 (gives n))))
-    ≡ need h 16 (then (cappedOutcome o) (λ n. need t 17 (need e 18 (gives n))))
+    → need h 16 (then (then o (λ n. need t 17 (gives n))) (λ n. need e 18 (gives n)))
+    ≡ need h 16 (then o (λ n. need t 17 (need e 18 (gives n))))
 chain true (gives n) true true = refl
 chain true (gives n) true false = refl
 chain true (gives n) false e = refl
@@ -111,13 +107,13 @@ module _ (version head ps : List ℕ) (n : ℕ) where
   fs = lowered (fieldsAt head ps 0 n)
 
   abbrev stated : Outcome ℕ
-  stated = cappedOutcome (statedBy (valuesOf (bytes "content-length") fs))
+  stated = statedBy (valuesOf (bytes "content-length") fs)
 
   abbrev coded : Bool
   coded = eqb (length (valuesOf (bytes "transfer-encoding") fs)) 0
 
   rules-are :
-      cappedOutcome (rulesOf version fs)
+      rulesOf version fs
       ≡ need (hostRight version fs) 16 (then stated (λ m. need (leb (length (valuesOf (bytes "content-type") fs)) 1) 17 (need coded 18 (gives m))))
   unfolding rulesOf contentOf
   rules-are = chain (hostRight version fs) (statedBy (valuesOf (bytes "content-length") fs)) (leb (length (valuesOf (bytes "content-type") fs)) 1) coded

@@ -5,7 +5,7 @@ use mathlib.Core.Path.{_≡_}
 use mathlib.Core.Bool.{true}
 use mathlib.Core.List.{List, [], _∷_}
 use lib.ListN.{length}
-use Rattle.octets.specs.Outcome.{refused, gives, then}
+use Rattle.octets.specs.Outcome.{refused, gives}
 use Rattle.octets.specs.Kinds.{oneOf, isName}
 use Rattle.octets.specs.Lists.{All}
 use Rattle.http.specs.Lines.{linesOf}
@@ -15,15 +15,15 @@ use Rattle.targets.specs.Target.{Target, targetOf}
 use Rattle.targets.specs.Claims.{Accepted}
 use Rattle.request.specs.Named.{lowered}
 use Rattle.request.specs.Request.{Request, rulesOf, requestOf}
-use Rattle.request.specs.RequestRead.{cappedRequest, requestIn, LineKnown, FieldsKnown, RequestRead}
+use Rattle.request.specs.RequestRead.{requestIn, LineKnown, FieldsKnown, RequestRead}
 use Rattle.request.specs.declared.read.LinePlaces.{LinePlaces}
 use Rattle.request.specs.declared.read.FieldPlaces.{FieldPlaces}
 use Rattle.request.specs.declared.read.Reading.the-variants.{Request as ReadRequest, Refused}
 
--- the request with the head, whatever its body length, has just the parts that stand at the places, in the head and in the list and the buffer as
--- the code left them; and code may go by the places
+-- the request with the head has just the parts that stand at the places, in the head and in the list and the buffer as the code left them; and
+-- code may go by the places
 pub record RequestStands (head places path : List ℕ) (l : LinePlaces) (f : FieldPlaces) : Type 0 where
-  pub answer : gives (requestIn head places path l f) ≡ then (requestOf head) (λ q. gives (cappedRequest q))
+  pub answer : gives (requestIn head places path l f) ≡ requestOf head
   pub line : LineKnown head path l
   pub fields : FieldsKnown head places f
 
@@ -34,7 +34,7 @@ pub record RequestsTold : Type 0 where
       → RequestStands head places′ path′ l f
   pub refuses :
       (head places places′ path path′ : List ℕ) (n : ℕ) → RequestRead head places places′ path path′ (Refused n)
-      → refused n ≡ then (requestOf head) (λ q. gives (cappedRequest q))
+      → refused n ≡ requestOf head
 
 -- an accepted request: its line, its target and its field lines are accepted each by its own rules, and the rules over all fields hold
 pub record Obeys (head : List ℕ) (q : Request) : Type 0 where

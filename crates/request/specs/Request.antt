@@ -24,7 +24,7 @@ hostRight version fs =
     let hosts = length (valuesOf (bytes "host") fs) in
     cond (sameBytes version (bytes "HTTP/1.1")) (eqb hosts 1) (leb hosts 1)
 
--- the body length that the Content-Length fields state: "At most one Content-Length (one or more digits; absent means 0)"
+-- the body length that the Content-Length fields state: "At most one Content-Length (one or more digits; absent means 0)", 02 §2: not above ten
 abbrev pub statedBy : List (List ℕ) → Outcome ℕ
 statedBy [] = gives 0
 statedBy (v ∷ []) = given (numberOf v) 17

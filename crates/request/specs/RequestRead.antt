@@ -1,6 +1,6 @@
 -- For the code that reads a request's head: what its answers say.
 -- Assumes nothing.
-use Prim.Native.Nat.{ℕ, min, _+_, _-_, _≤_}
+use Prim.Native.Nat.{ℕ, _+_, _-_, _≤_}
 use mathlib.Core.Path.{_≡_}
 use mathlib.Core.Bool.{Bool, cond}
 use mathlib.Core.List.{List}
@@ -10,7 +10,6 @@ use lib.ListN.{length, take, drop, getD}
 use Rattle.octets.specs.Text.{bytes}
 use Rattle.octets.specs.Outcome.{Outcome, refused, gives, then}
 use Rattle.octets.specs.Kinds.{isName}
-use Rattle.octets.specs.Decimal.{cap}
 use Rattle.octets.specs.Copy.{over}
 use Rattle.http.specs.Lines.{linesOf, lineRun}
 use Rattle.http.specs.RequestLine.{FirstLine, requestLineOf, versionText}
@@ -19,7 +18,7 @@ use Rattle.targets.specs.Escape.{decoded}
 use Rattle.targets.specs.Target.{pathOf, queryOf, targetOf}
 use Rattle.request.specs.Named.{lowered, valuesOf, firstOf}
 use Rattle.request.specs.Request.{Request, rulesOf, requestOf}
-use Rattle.request.specs.Rules.{foundOf, cappedOutcome}
+use Rattle.request.specs.Rules.{foundOf}
 use Rattle.request.specs.declared.read.LinePlaces.{LinePlaces}
 use Rattle.request.specs.declared.read.Line.{Line}
 use Rattle.request.specs.declared.read.Line.the-variants.{At as LineAt, Refused as LineRefused}
@@ -80,7 +79,7 @@ pub record LineRead (head before after : List ℕ) (r : Line) : Type 0 where
 
 -- THE FIELDS
 
--- fields, and the body length that they state, with 1,048,577 for all above 1,048,576: 15; 16; 17; 18
+-- fields, and the body length that they state: 15; 16; 17; 18
 pub record Stating : Type 0 where
   pub fields : List Field
   pub bodyLength : ℕ
@@ -88,7 +87,7 @@ pub record Stating : Type 0 where
 abbrev pub statingOf : List ℕ → List ℕ → Outcome Stating
 statingOf head version =
     then (fieldsOf isName (linesOf head .others)) (λ fields.
-    then (cappedOutcome (rulesOf version (lowered fields))) (λ n.
+    then (rulesOf version (lowered fields)) (λ n.
     gives (record { fields = fields; bodyLength = n })))
 
 -- how many they are, and where the first Content-Type's value stands in a head, by the numbers of its field lines; 0 and 0 where there is none
@@ -113,11 +112,7 @@ pub record FieldsRead (head version before after : List ℕ) (r : Rest) : Type 0
 
 -- THE REQUEST
 
--- a request, with 1,048,577 for all body lengths above 1,048,576
-abbrev pub cappedRequest : Request → Request
-cappedRequest q = record { first = q .first; path = q .path; fields = q .fields; bodyLength = min (q .bodyLength) cap }
-
--- where its parts stand in its head
+-- where a request's parts stand in its head
 pub record Placed : Type 0 where
   pub line : LinePlaces
   pub fields : FieldPlaces
@@ -141,7 +136,7 @@ RequestStored head places places′ path path′ (ReadRequest l f) =
 RequestStored head places places′ path path′ (Refused n) = Unit {0}
 
 pub record RequestRead (head places places′ path path′ : List ℕ) (r : Reading) : Type 0 where
-  pub answer : readingOutcome r ≡ then (requestOf head) (λ q. gives (placedIn head (cappedRequest q)))
+  pub answer : readingOutcome r ≡ then (requestOf head) (λ q. gives (placedIn head q))
   pub stored : RequestStored head places places′ path path′ r
 
 -- WHAT STANDS AT THE PLACES

@@ -1,6 +1,6 @@
 -- For the code of the rules over all fields: what its answers say, by the numbers of the fields in a lent list.
 -- Assumes nothing.
-use Prim.Native.Nat.{ℕ, zero, suc, min, _+_, _*_}
+use Prim.Native.Nat.{ℕ, zero, suc, _+_, _*_}
 use mathlib.Core.Bool.{Bool, cond}
 use mathlib.Core.List.{List}
 use lib.Dec.{eqb, ltb}
@@ -8,7 +8,6 @@ use lib.ListN.{getD}
 use Rattle.octets.specs.Text.{bytes}
 use Rattle.octets.specs.Outcome.{Outcome, refused, gives, then}
 use Rattle.octets.specs.Compare.{sameLetters}
-use Rattle.octets.specs.Decimal.{cap}
 use Rattle.http.specs.Fields.{fieldAt, fieldsAt}
 use Rattle.request.specs.Named.{lowered}
 use Rattle.request.specs.Request.{rulesOf}
@@ -34,10 +33,6 @@ unfoldable pub foundOf : (name head ps : List ℕ) → ℕ → Found
 foundOf name head ps zero = record { count = 0; start = 0; len = 0 }
 foundOf name head ps (suc k) = withField name head ps k (foundOf name head ps k)
 
--- a body length, with 1,048,577 for all above 1,048,576
-abbrev pub cappedOutcome : Outcome ℕ → Outcome ℕ
-cappedOutcome o = then o (λ n. gives (min n cap))
-
 abbrev pub statedOutcome : Stated → Outcome ℕ
 statedOutcome (Length n) = gives n
 statedOutcome (StatedRefused n) = refused n
@@ -59,5 +54,5 @@ judged n type = record { body = n; typed = ltb 0 (type .count); start = type .st
 -- 16; 17; 18: of the first n fields, for a request of the version
 abbrev pub judgedOf : (version head ps : List ℕ) → ℕ → Outcome Judged
 judgedOf version head ps n =
-    then (cappedOutcome (rulesOf version (lowered (fieldsAt head ps 0 n)))) (λ body.
+    then (rulesOf version (lowered (fieldsAt head ps 0 n))) (λ body.
     gives (judged body (foundOf (bytes "content-type") head ps n)))

@@ -89,7 +89,7 @@ fn read_line(kinds: &[u8; 256], head: &[u8], path: &mut [u8]) -> Line
 pub struct FieldPlaces {
     // How many fields there are, whose places are stored.
     pub count: usize,
-    // The stated body length, or 1,048,577 for every length above 1,048,576.
+    // The stated body length.
     pub body: u64,
     // Whether there is a Content-Type; where its value stands, and how long it is.
     pub typed: bool,

@@ -8,7 +8,7 @@ ghost use Rattle.http.specs.RequestLine.{versionText};
 ghost use Rattle.http.specs.Fields.{Inside, AllInside, fieldsAt};
 ghost use Rattle.request.specs.Named.{lowered, valuesOf};
 ghost use Rattle.request.specs.Request.{hostRight, statedBy};
-ghost use Rattle.request.specs.Rules.{withField, foundOf, cappedOutcome, statedOutcome, rulesOutcome, judgedOf};
+ghost use Rattle.request.specs.Rules.{withField, foundOf, statedOutcome, rulesOutcome, judgedOf};
 use crate::stored::has_name;
 use octets::decimal;
 use octets::decimal::Number;
@@ -75,7 +75,6 @@ fn host_right(head: &[u8], places: &[u64], n: usize, minor: u8) -> bool
 }
 
 pub enum Stated {
-    // The body length, or 1,048,577 for every length above 1,048,576.
     Length(u64),
     Refused(u8),
 }
@@ -95,7 +94,7 @@ impl Stated {
 // The body length that the Content-Length fields state.
 fn content_length(head: &[u8], places: &[u64], n: usize) -> Stated
     requires { ⌜ (4 * n ≤ length (now places)) × (n ≤ 64) × AllInside (now head) (now places) n ⌝ }
-    ensures { λ r. ⌜ statedOutcome r ≡ cappedOutcome (statedBy (valuesOf (bytes "content-length") (lowered (fieldsAt (now (head .entry)) (now (places .entry)) 0 n)))) ⌝ }
+    ensures { λ r. ⌜ statedOutcome r ≡ statedBy (valuesOf (bytes "content-length") (lowered (fieldsAt (now (head .entry)) (now (places .entry)) 0 n))) ⌝ }
 {
     let lengths = named(head, places, n, b"content-length");
     if lengths.count == 0 {
@@ -108,14 +107,14 @@ fn content_length(head: &[u8], places: &[u64], n: usize) -> Stated
     let end = start + lengths.len;
     let v = decimal::read(&head[start..end]);
     let Number::Value(m) = v else {
-        // 17: "Content-Length or Content-Type rule"; the length must be one or more digits.
+        // 17: "Content-Length or Content-Type rule"; the length must be 1 to 10 digits.
         return Stated::Refused(17);
     };
     Stated::Length(m)
 }
 
 pub enum Rules {
-    // The stated body length, or 1,048,577 for every length above 1,048,576; whether there is a Content-Type, and where its value stands.
+    // The stated body length; whether there is a Content-Type, and where its value stands.
     Body {
         len: u64,
         type_there: bool,

@@ -1,17 +1,16 @@
 -- Laws of the value of Status, for the code that reads it.
 -- Assumes nothing.
-use Prim.Native.Nat.{ℕ, min, _≤_, _<_}
-use mathlib.Core.Path.{_≡_, refl, sym, _∙_}
+use Prim.Native.Nat.{ℕ, _≤_, _<_}
+use mathlib.Core.Path.{_≡_, refl, sym}
 use mathlib.Core.Bool.{Bool, true, false, cond, _&&_, _||_}
 use mathlib.Core.List.{List}
 use mathlib.Core.Option.{Option, none, some}
 use native.Mathlib.Omega.{arith}
 use lib.Dec.{eqb, leb}
 use lib.ListN.{length, take, getD, List·getD-eq-default}
-use borrow.Author.Tests.{ne-eqb, eqb-true, le-leb, lt-leb, leb-true, leb-false}
+use borrow.Author.Tests.{ne-eqb, eqb-true, le-leb, lt-leb, leb-true}
 use Rattle.octets.specs.Outcome.{gives, then, given}
-use Rattle.octets.specs.Kinds.{within}
-use Rattle.octets.specs.Decimal.{numberOf, cap, capped}
+use Rattle.octets.specs.Decimal.{numberOf}
 use Rattle.octets.proofs.Bools.{and-false}
 use Rattle.octets.proofs.Lists.{there}
 use Rattle.response.specs.Status.{threeAlone, inRange, statusOf, statedOption, statedOutcome}
@@ -40,51 +39,28 @@ module _ (v : List ℕ) where
       by false true p q e = omega (arith, there v 3 31 (eqb-true (getD v 3 0) 32 q))
       by false false p q e = let z : _≡_ {A = ℕ} 0 1 = cc in omega arith
 
--- The range, of a number that is told as the cap where it is above it.
-
-capped-range : (m : ℕ) → cond (within 200 599 m) (some m) none ≡ cond (within 200 599 (min m cap)) (some (min m cap)) none
-capped-range m = by (leb m 599) refl
-  where
-    by : (x : Bool) → leb m 599 ≡ x → cond (within 200 599 m) (some m) none ≡ cond (within 200 599 (min m cap)) (some (min m cap)) none
-    by true e =
-        let z : min m cap ≡ m = omega (arith, leb-true m 599 e) in
-        rw z
-    by false e =
-        let h : 599 < min m cap = omega (arith, leb-false m 599 e) in
-        rw (e, lt-leb (min m cap) 599 h, and-false (leb 200 m), and-false (leb 200 (min m cap)))
-
-range : (o : Option ℕ) (n : ℕ) → capped o ≡ some n → inRange o ≡ cond (within 200 599 n) (some n) none
-range none n e = cc
-range (some m) n e =
-    let z : min m cap ≡ n = cc in
-    capped-range m ∙ rw z
-
 module _ (v : List ℕ) where
   pub not-three : threeAlone v ≡ false → statusOf v ≡ none
   unfolding statusOf
   not-three e = rw e
 
   module _ (t : threeAlone v ≡ true) where
-    pub no-digits : capped (numberOf (take 3 v)) ≡ none → statusOf v ≡ none
+    pub no-digits : numberOf (take 3 v) ≡ none → statusOf v ≡ none
     unfolding statusOf
-    no-digits e = rw t (by (numberOf (take 3 v)) e)
-      where
-        by : (o : Option ℕ) → capped o ≡ none → inRange o ≡ none
-        by none e = refl
-        by (some n) e = cc
+    no-digits e = rw (t, e)
 
-    module _ (n : ℕ) (e : capped (numberOf (take 3 v)) ≡ some n) where
+    module _ (n : ℕ) (e : numberOf (take 3 v) ≡ some n) where
       pub low : n < 200 → statusOf v ≡ none
       unfolding statusOf
-      low h = rw t (range (numberOf (take 3 v)) n e ∙ rw (lt-leb 200 n h))
+      low h = rw (t, e, lt-leb 200 n h)
 
       pub high : 599 < n → statusOf v ≡ none
       unfolding statusOf
-      high h = rw t (range (numberOf (take 3 v)) n e ∙ rw (lt-leb n 599 h, and-false (leb 200 n)))
+      high h = rw (t, e, lt-leb n 599 h, and-false (leb 200 n))
 
       pub right : 200 ≤ n → n ≤ 599 → statusOf v ≡ some n
       unfolding statusOf
-      right h k = rw t (range (numberOf (take 3 v)) n e ∙ rw (le-leb 200 n h, le-leb n 599 k))
+      right h k = rw (t, e, le-leb 200 n h, le-leb n 599 k)
 
 -- FOR CALLERS: a status is 200 to 599
 pub status-within : (v : List ℕ) (n : ℕ) → statusOf v ≡ some n → (200 ≤ n) × (n ≤ 599)

@@ -1,7 +1,7 @@
 -- Laws of the steps of a block's check, for the code that makes them.
 -- Assumes nothing.
 use Prim.{absurd}
-use Prim.Native.Nat.{ℕ, min, _+_, _-_, _≤_, _<_}
+use Prim.Native.Nat.{ℕ, _+_, _-_, _≤_, _<_}
 use mathlib.Core.Path.{_≡_, refl, sym, ap, _∙_}
 use mathlib.Core.Bool.{Bool, true, false, cond, _&&_, _||_}
 use mathlib.Core.List.{List, [], _∷_}
@@ -15,11 +15,11 @@ use Rattle.octets.specs.Text.{bytes}
 use Rattle.octets.specs.Outcome.{Outcome, refused, gives, then, need, given}
 use Rattle.octets.specs.Compare.{sameBytes}
 use Rattle.octets.specs.Lists.{All, _&_, different, Different, one-more}
-use Rattle.octets.specs.Decimal.{numberOf, cap, capped}
+use Rattle.octets.specs.Decimal.{numberOf}
 use Rattle.octets.proofs.Bools.{or-false}
 use Rattle.octets.proofs.Compares.{same-true, same-false}
 use Rattle.octets.proofs.Names.{test-different}
-use Rattle.octets.proofs.Outcomes.{Gave, then-gives}
+use Rattle.octets.proofs.Outcomes.{then-gives}
 use Rattle.headers.specs.Block.{Header, names, parsed, wellFormed, countOf, headerIn, HeaderFound}
 use Rattle.scgi.specs.Grammar.{scgi1}
 use Rattle.headers.specs.Lookup.{Part, partOption, valueIn, lookupOf}
@@ -29,17 +29,9 @@ use Rattle.headers.proofs.Claims.{well-formed-headed, headers-few, lookup-finds
 
 -- The stated length.
 
-capped-given : (o : Option ℕ) → then (given o 8) (λ n. gives (min n cap)) ≡ given (capped o) 8
-capped-given none = refl
-capped-given (some n) = refl
-
-need-capped : (t : Bool) (o : Option ℕ) → then (need t 8 (given o 8)) (λ n. gives (min n cap)) ≡ need t 8 (given (capped o) 8)
-need-capped true o = capped-given o
-need-capped false o = refl
-
 -- the length that a block with a first header states
 abbrev pub firstStates : List ℕ → ℕ → ℕ → Outcome ℕ
-firstStates b n v = need (sameBytes (take n b) (bytes "CONTENT_LENGTH")) 8 (given (capped (numberOf (take (v - (n + 1)) (drop (n + 1) b)))) 8)
+firstStates b n v = need (sameBytes (take n b) (bytes "CONTENT_LENGTH")) 8 (given (numberOf (take (v - (n + 1)) (drop (n + 1) b))) 8)
 
 headed : (b : List ℕ) → wellFormed b ≡ true → Headed b
 headed b = well-formed-headed b .0
@@ -53,15 +45,13 @@ module _ (b : List ℕ) (w : wellFormed b ≡ true) where
   states-none z =
       let p = headed b w in
       let e : p .hs ≡ [] = no-headers (p .hs) (omega (arith, headers-few b (p .hs) (p .is))) in
-      ap (λ (o : Outcome (List Header)). then o (λ hs. then (statedBy hs) (λ n. gives (min n cap)))) (p .is ∙ ap gives e)
+      ap (λ (o : Outcome (List Header)). then o statedBy) (p .is ∙ ap gives e)
 
   pub states-first : (n v : ℕ) → HeaderFound b 0 (gives (record { nameEnd = n; valueEnd = v })) → statedIn b ≡ firstStates b n v
   states-first n v h =
       let p = headed b w in
       let g = then-gives (parsed (drop (v + 1) b)) (λ hs. gives (headerIn b 0 n v ∷ hs)) (p .hs) (h .answer ∙ p .is) in
-      ap (λ (o : Outcome (List Header)). then o (λ hs. then (statedBy hs) (λ n. gives (min n cap)))) (p .is ∙ sym (g .next))
-      ∙ need-capped (sameBytes (take (n - 0) b) (bytes "CONTENT_LENGTH")) (numberOf (take (v - (n + 1)) (drop (n + 1) b)))
-      ∙ rw (sub-zero n)
+      ap (λ (o : Outcome (List Header)). then o statedBy) (p .is ∙ sym (g .next)) ∙ rw (sub-zero n)
 
   -- a first header is found where there are bytes
   pub never-unheaded : {A : Type 0} {o : A} {e : A} (n : ℕ) → HeaderFound b 0 (refused n) → o ≡ e
@@ -179,37 +169,26 @@ module _ (b : List ℕ) (d : then (parsed b) (λ hs. gives (different (names hs)
   left = rw p
 
   pub unstated : (k : ℕ) → statedIn b ≡ refused k → restOf b ≡ refused k
-  unstated k e = left ∙ by (statedBy hs) (rw p at e)
-    where
-      by : (o : Outcome ℕ) → then o (λ n. gives (min n cap)) ≡ refused k → then o (λ n. need (leb n 1048576) 9 (need (has scgi1 hs) 10 (gives n))) ≡ refused k
-      by (refused n) q = cc
-      by (gives n) q = cc
+  unstated k e =
+      let q : statedBy hs ≡ refused k = rw p at e in
+      left ∙ rw q
 
   module _ (len : ℕ) (e : statedIn b ≡ gives len) where
-    -- the number that is stated
-    stated : Gave (statedBy hs) (λ n. gives (min n cap)) len
-    stated = then-gives (statedBy hs) (λ n. gives (min n cap)) len (rw p at e)
-
-    is-min : min (stated .it) cap ≡ len
-    is-min =
-        let q : gives (min (stated .it) cap) ≡ gives len = stated .next in
-        cc
+    stated : statedBy hs ≡ gives len
+    stated = rw p at e
 
     pub too-long : 1048576 < len → restOf b ≡ refused 9
-    too-long h = left ∙ rw (stated .first, lt-leb (stated .it) 1048576 (omega (arith, is-min)))
+    too-long h = left ∙ rw (stated, lt-leb len 1048576 h)
 
     module _ (small : len ≤ 1048576) where
-      is-it : stated .it ≡ len
-      is-it = omega (arith, is-min)
-
       pub no-scgi : hasScgi b ≡ gives false → restOf b ≡ refused 10
       no-scgi h =
           let q : gives (has scgi1 hs) ≡ gives false = rw p at h in
           let z : has scgi1 hs ≡ false = cc in
-          left ∙ rw (stated .first, is-it, le-leb len 1048576 small, z)
+          left ∙ rw (stated, le-leb len 1048576 small, z)
 
       pub passes : hasScgi b ≡ gives true → restOf b ≡ gives len
       passes h =
           let q : gives (has scgi1 hs) ≡ gives true = rw p at h in
           let z : has scgi1 hs ≡ true = cc in
-          left ∙ rw (stated .first, is-it, le-leb len 1048576 small, z)
+          left ∙ rw (stated, le-leb len 1048576 small, z)

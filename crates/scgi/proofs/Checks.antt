@@ -25,13 +25,14 @@ use Rattle.scgi.specs.Check.{statedBy, has, checkBlock}
 use Rattle.headers.proofs.Claims.{printed-parsed, headers-proper}
 
 states-test : (n : ℕ) (hs : List Header) → States n hs → statedBy hs ≡ gives n
-states-test n (h ∷ hs) (first e p) = rw (e, same-refl (bytes "CONTENT_LENGTH"), number-of-says n (h .value) p)
+states-test n (h ∷ hs) (first e p l) = rw (e, same-refl (bytes "CONTENT_LENGTH"), number-of-says n (h .value) p l)
 
 test-states : (n : ℕ) (hs : List Header) → statedBy hs ≡ gives n → States n hs
 test-states n [] e = absurd (let z : _≡_ {A = ℕ} 0 1 = cc in omega arith)
 test-states n (h ∷ hs) e =
     let a = need-gives (sameBytes (h .name) (bytes "CONTENT_LENGTH")) 8 (given (numberOf (h .value)) 8) n e in
-    first (same-true (h .name) (bytes "CONTENT_LENGTH") (a .0)) (says-of-number n (h .value) (given-gives (numberOf (h .value)) 8 n (a .1)))
+    let d = says-of-number n (h .value) (given-gives (numberOf (h .value)) 8 n (a .1)) in
+    first (same-true (h .name) (bytes "CONTENT_LENGTH") (a .0)) (d .0) (d .1)
 
 same-header : (h h′ : Header) → h .name ≡ h′ .name → h .value ≡ h′ .value → h ≡ h′
 same-header h h′ n v =

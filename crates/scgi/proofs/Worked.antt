@@ -4,7 +4,7 @@ use Prim.Native.Nat.{ℕ}
 use Prim.Native.String.{String}
 use mathlib.Core.Path.{_≡_, refl}
 use mathlib.Core.List.{List, [], _∷_, _++_, map}
-use mathlib.Core.Option.{some}
+use mathlib.Core.Option.{none}
 use lib.ListN.{replicate}
 use Rattle.octets.specs.Text.{bytes, barred}
 use Rattle.octets.specs.Outcome.{Outcome, refused, gives}
@@ -40,7 +40,15 @@ further =
     ∷ record { input = "41:CONTENT_LENGTH|x|CONTENT_LENGTH|1|SCGI|1|,"; answer = refused 7 }
     ∷ record { input = "24:CONTENT_LENGTH|x|SCGI|1|,"; answer = refused 8 }
     ∷ record { input = "24:SCGI|1|CONTENT_LENGTH|0|,"; answer = refused 8 }
-    ∷ record { input = "43:CONTENT_LENGTH|18446744073709551616|SCGI|1|,"; answer = refused 9 }
+    ∷ record { input = "34:CONTENT_LENGTH|00000000003|SCGI|1|,abc"; answer = refused 8 }
+    ∷ record { input = "34:CONTENT_LENGTH|99999999999|SCGI|2|,"; answer = refused 8 }
+    ∷ record { input = "33:CONTENT_LENGTH|9999999999|SCGI|2|,"; answer = refused 9 }
+    ∷ record { input = "40:CONTENT_LENGTH|00000000003|SCGI|1|A||A||,"; answer = refused 7 }
+    ∷ record { input = "27:CONTENT_LENGTH|00000000003|,"; answer = refused 8 }
+    ∷ record {
+      input = "33:CONTENT_LENGTH|0000000003|SCGI|1|,abc";
+      answer = gives (record { blockStart = 3; blockLength = 33; bodyStart = 37; bodyLength = 3; used = 40 });
+    }
     ∷ record { input = "30:CONTENT_LENGTH|1048577|SCGI|2|,"; answer = refused 9 }
     ∷ record { input = "24:CONTENT_LENGTH|0|SCGI|2|,"; answer = refused 10 }
     ∷ record { input = "17:CONTENT_LENGTH|0|,"; answer = refused 10 }
@@ -80,6 +88,7 @@ writings =
     ∷ record { block = "A"; body = ""; room = 0; written = refused 5 }
     ∷ record { block = "A||A||"; body = ""; room = 0; written = refused 7 }
     ∷ record { block = ""; body = ""; room = 0; written = refused 8 }
+    ∷ record { block = "CONTENT_LENGTH|00000000002|SCGI|1|"; body = "ab"; room = 40; written = refused 8 }
     ∷ record { block = "CONTENT_LENGTH|1048577|"; body = ""; room = 0; written = refused 9 }
     ∷ record { block = "CONTENT_LENGTH|2|"; body = "a"; room = 0; written = refused 10 }
     ∷ record { block = "CONTENT_LENGTH|2|SCGI|1|"; body = "a"; room = 0; written = refused 23 }
@@ -106,7 +115,7 @@ pub header-limit :
 unfolding printed checkBlock parted paired different isIn sameBytes
 header-limit = (refl, refl, refl)
 
--- any count of leading zeros
-pub many-zeros : numberOf (replicate 4000 48 ++ bytes "3") ≡ some 3
+-- 02 §2: "A worker choked on a CONTENT_LENGTH with four thousand leading zeros"
+pub many-zeros : numberOf (replicate 4000 48 ++ bytes "3") ≡ none
 unfolding numberFrom isDigit
 many-zeros = refl

@@ -1,6 +1,6 @@
 -- What is asked of a whole block, by the reader and by the writer.
 -- Assumes nothing.
-use Prim.Native.Nat.{ℕ, min}
+use Prim.Native.Nat.{ℕ}
 use mathlib.Core.Bool.{Bool, false, _&&_, _||_}
 use mathlib.Core.List.{List, [], _∷_}
 use lib.Dec.{leb}
@@ -9,7 +9,7 @@ use Rattle.octets.specs.Text.{bytes}
 use Rattle.octets.specs.Outcome.{Outcome, refused, gives, then, need, given}
 use Rattle.octets.specs.Compare.{sameBytes}
 use Rattle.octets.specs.Lists.{different}
-use Rattle.octets.specs.Decimal.{numberOf, cap}
+use Rattle.octets.specs.Decimal.{numberOf}
 use Rattle.headers.specs.Block.{Header, names, parsed}
 use Rattle.scgi.specs.Grammar.{scgi1}
 use Rattle.scgi.specs.declared.check.Stated.{Stated}
@@ -17,7 +17,7 @@ use Rattle.scgi.specs.declared.check.Stated.the-variants.{Length, Refuse
 use Rattle.scgi.specs.declared.check.Checked.{Checked}
 use Rattle.scgi.specs.declared.check.Checked.the-variants.{Body, Refused}
 
--- the body length that the first header states; 8: "first header is not CONTENT_LENGTH with one or more digits"
+-- the body length that the first header states; 8: "first header is not CONTENT_LENGTH with one or more digits", 02 §2: of more than 10 too
 abbrev pub statedBy : List Header → Outcome ℕ
 statedBy [] = refused 8
 statedBy (h ∷ hs) = need (sameBytes (h .name) (bytes "CONTENT_LENGTH")) 8 (given (numberOf (h .value)) 8)
@@ -40,9 +40,9 @@ checkBlock block =
 
 -- For the steps of the code, each over the whole block.
 
--- the stated body length, with 1,048,577 for all above 1,048,576
+-- the stated body length
 abbrev pub statedIn : List ℕ → Outcome ℕ
-statedIn block = then (parsed block) (λ hs. then (statedBy hs) (λ n. gives (min n cap)))
+statedIn block = then (parsed block) statedBy
 
 abbrev pub statedOutcome : Stated → Outcome ℕ
 statedOutcome (Length n) = gives n

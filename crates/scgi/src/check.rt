@@ -19,7 +19,6 @@ use octets::decimal;
 use octets::decimal::Number;
 
 pub enum Stated {
-    // The body length, or 1,048,577 for every length above 1,048,576.
     Length(u64),
     Refused(u8),
 }
@@ -37,7 +36,7 @@ impl Stated {
 }
 
 // The body length that the first header of a well formed block states. Whatever is amiss with it, no header too, is 8: "first header is not
-// CONTENT_LENGTH with one or more digits".
+// CONTENT_LENGTH with one or more digits", and 02 §2 allows ten.
 fn stated_length(block: &[u8]) -> Stated
     requires { ⌜ wellFormed (now block) ≡ true ⌝ }
     ensures { λ r. ⌜ statedOutcome r ≡ statedIn (now (block .entry)) ⌝ }

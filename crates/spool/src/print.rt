@@ -1,5 +1,5 @@
 // Lengths, endings and complaints. What is printed says whether it was written, and where it was not, the complaint is made here.
-ghost use Prim.Native.Nat.{_+_, _*_, _≤_};
+ghost use Prim.Native.Nat.{_+_, _≤_};
 ghost use lib.ListN.{length};
 use libc::STDERR_FILENO;
 use libc::STDOUT_FILENO;

@@ -3,7 +3,6 @@
 use Prim.Native.Nat.{ℕ}
 use mathlib.Core.Path.{_≡_, refl}
 use mathlib.Core.List.{List}
-use mathlib.Core.Option.{Option, none, some}
 use native.Mathlib.Omega.{arith}
 use lib.Dec.{ltb}
 use lib.ListN.{length}
@@ -18,7 +17,7 @@ use Rattle.octets.proofs.Names.{test-different}
 use Rattle.headers.specs.Block.{names}
 use Rattle.http.specs.Fields.{Field}
 use Rattle.http.specs.Claims.{Clean}
-use Rattle.lent.specs.Settings.{Auth, Settings}
+use Rattle.lent.specs.Settings.{Settings}
 use Rattle.lent.specs.Mounts.{Route}
 use Rattle.lent.specs.Claims.{ProperSettings}
 use Rattle.request.specs.Request.{Request, requestOf}

@@ -9,6 +9,7 @@ mod gateway_cases; // the step: whole outputs, mounts, fields, room
 mod gateway_lent; // the step: what it is lent
 mod gateway_order; // the step: the order of its refusals
 mod gateway_limits; // the step: its largest inputs
+mod digits; // decimal numbers of ten and of eleven digits, in each call that reads one
 
 fn main() {
     scgi_cases::reader();
@@ -32,4 +33,5 @@ fn main() {
     gateway_lent::all();
     gateway_order::all();
     gateway_limits::all();
+    digits::all();
 }

@@ -5,7 +5,7 @@ use scgi::read::read;
 use scgi::write::Writing;
 use scgi::write::write;
 
-fn show_read(s: &[u8]) {
+pub fn show_read(s: &[u8]) {
     let r = read(s);
     match r {
         Reading::Request {
@@ -70,7 +70,7 @@ pub fn reader_order() {
 }
 
 // Writes into 110 bytes, and reads what was written.
-fn show_write(block: &[u8], body: &[u8]) {
+pub fn show_write(block: &[u8], body: &[u8]) {
     let mut out = [120u8; 110];
     let r = write(block, body, &mut out);
     match r {

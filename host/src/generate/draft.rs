@@ -1,5 +1,5 @@
 //! Good HTTP requests in parts.
-use super::Pair;
+use super::{digits, Pair};
 use crate::random::Random;
 use crate::refusal::MAX_BODY;
 
@@ -83,9 +83,9 @@ fn add_body(random: &mut Random, draft: &mut Draft) {
         _ => random.small(),
     };
     draft.body = vec![random.number() as u8; len];
-    let zeros = "0".repeat(random.pick(&[0, 0, 0, 1, 25]));
+    let stated = digits::few(random, len);
     let name = random.pick(&["Content-Length", "content-length", "CONTENT-LENGTH"]);
-    draft.insert(random, format!("{name}: {zeros}{len}").as_bytes());
+    draft.insert(random, format!("{name}: {stated}").as_bytes());
 }
 
 /// A field line of any name and value.

@@ -130,7 +130,7 @@ pub fn breach(random: &mut Random) -> Vec<Vec<u8>> {
 
 fn breach_of_server(random: &mut Random, lent: &mut Lent) {
     let name = random.pick(&SERVER);
-    let bad_port = random.pick(&["0", "080", "65536", "70000", "99999999999999999999", "8a", " 80", "-1", ""]);
+    let bad_port = random.pick(&["0", "080", "65536", "70000", "9999999999", "10000000080", "00000000080", "18446744073709551696", "8a", " 80", "-1", ""]);
     lent.site.retain(|header| header.0 != name.as_bytes());
     lent.facts.retain(|header| header.0 != name.as_bytes());
     let to_facts = random.chance(50);

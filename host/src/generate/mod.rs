@@ -1,5 +1,6 @@
 //! Inputs for each call: good ones from the grammars, ones with a wanted fault, lengths around each limit, and damage to all of them.
 mod damage;
+mod digits;
 pub mod draft;
 pub mod http;
 pub mod lent;

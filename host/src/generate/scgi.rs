@@ -1,6 +1,6 @@
 //! SCGI requests, blocks and spools.
 use super::damage::damage;
-use super::{block, pair, room, Pair, LETTERS};
+use super::{block, digits, pair, room, Pair, LETTERS};
 use crate::case::{Call, Case};
 use crate::random::Random;
 use crate::refusal::*;
@@ -10,9 +10,7 @@ const NAMES: &[&str] =
 
 /// The headers of a request with a body of this length.
 fn headers(random: &mut Random, body_len: usize) -> Vec<Pair> {
-    let zeros = if random.chance(10) { random.below(30) } else { 0 };
-    let length = format!("{}{body_len}", "0".repeat(zeros));
-    let mut pairs = vec![pair("CONTENT_LENGTH", length.as_bytes())];
+    let mut pairs = vec![pair("CONTENT_LENGTH", digits::few(random, body_len).as_bytes())];
     for _ in 0..random.small() {
         let header = any_header(random);
         if !pairs.iter().any(|other| other.0 == header.0) && header.0 != b"SCGI" {
@@ -91,14 +89,15 @@ fn faulty_headers(random: &mut Random, number: Refusal) -> Vec<Pair> {
             let at = random.between(1, pairs.len());
             pairs.insert(at, (again.0, random.text(b"01", 1)));
         }
-        FIRST => match random.below(5) {
+        FIRST => match random.below(6) {
             0 => pairs.swap(0, 1),
             1 => pairs[0].1.clear(),
             2 => pairs[0].1.push(random.pick(b"x +-/:")),
             3 => drop(pairs.remove(0)),
+            4 => pairs[0].1 = digits::many(random).into_bytes(),
             _ => pairs[0].0.push(b'S'),
         },
-        BODY_LONG => pairs[0].1 = large_number(random),
+        BODY_LONG => pairs[0].1 = digits::large(random).into_bytes(),
         SCGI => {
             let at = pairs.iter().position(|header| header.0 == b"SCGI").unwrap_or(0);
             match random.below(4) {
@@ -115,14 +114,6 @@ fn faulty_headers(random: &mut Random, number: Refusal) -> Vec<Pair> {
 fn extra_headers(random: &mut Random) -> Vec<Pair> {
     let count = MAX_HEADERS + 1 + random.pick(&[0, 0, 1, 40]);
     many_headers(random, count)
-}
-
-/// Digits of a number above the largest body, up to far above 64 bits.
-pub fn large_number(random: &mut Random) -> Vec<u8> {
-    let text = random.pick(&["1048577", "1048578", "9999999", "10485760", "18446744073709551616", "18446744073709551615", "4294967296"]);
-    let zeros = random.pick(&[0, 0, 1, 40]);
-    let digits = random.pick(&[0, 0, 0, 400]);
-    format!("{}{text}{}", "0".repeat(zeros), "7".repeat(digits)).into_bytes()
 }
 
 /// A block that is malformed.

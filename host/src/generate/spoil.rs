@@ -1,7 +1,6 @@
 //! HTTP requests with a wanted fault, and at a limit.
 use super::draft::{field, Draft};
-use super::scgi::large_number;
-use super::LETTERS;
+use super::{digits, LETTERS};
 use crate::random::Random;
 use crate::refusal::*;
 
@@ -21,8 +20,8 @@ pub fn spoil(random: &mut Random, draft: &mut Draft, number: Refusal) {
     match number {
         BODY_LONG => {
             draft.remove("Content-Length");
-            let digits = large_number(random);
-            draft.insert(random, &[b"Content-Length: ", &digits[..]].concat());
+            let stated = digits::large(random);
+            draft.insert(random, format!("Content-Length: {stated}").as_bytes());
         }
         HEAD_LONG => {
             let len = MAX_HEAD + random.small();
@@ -103,11 +102,12 @@ fn spoil_host(random: &mut Random, draft: &mut Draft) {
 }
 
 fn spoil_content(random: &mut Random, draft: &mut Draft) {
-    let bad = random.pick(&["5, 5", "", "x", "+5", "-1", "0x5", "5 5", "5."]);
     match random.below(3) {
         0 => {
+            let bad = random.pick(&["5, 5", "", "x", "+5", "-1", "0x5", "5 5", "5."]);
+            let stated = if random.chance(50) { digits::many(random) } else { bad.into() };
             draft.remove("Content-Length");
-            draft.insert(random, format!("Content-Length: {bad}").as_bytes());
+            draft.insert(random, format!("Content-Length: {stated}").as_bytes());
         }
         1 => {
             draft.insert(random, b"Content-Length: 0");

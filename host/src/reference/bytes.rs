@@ -1,4 +1,5 @@
 //! Kinds of bytes, decimal numbers, trimming.
+use crate::refusal::MAX_DIGITS;
 
 /// Bytes of a token (RFC 9110, section 5.6.2).
 pub fn is_token(byte: u8) -> bool {
@@ -20,13 +21,12 @@ pub fn is_value(byte: u8) -> bool {
     matches!(byte, 9 | 32..=126 | 128..=255)
 }
 
-/// The number that one or more digits say, the largest u64 where it is larger still; none for anything else.
+/// The number that 1 to 10 digits say, leading zeros counted; none for anything else.
 pub fn decimal(text: &[u8]) -> Option<u64> {
-    if text.is_empty() {
+    if text.is_empty() || text.len() > MAX_DIGITS {
         return None;
     }
-    text.iter()
-        .try_fold(0u64, |number, &byte| byte.is_ascii_digit().then(|| number.saturating_mul(10).saturating_add(u64::from(byte - b'0'))))
+    text.iter().try_fold(0, |number, &byte| byte.is_ascii_digit().then(|| number * 10 + u64::from(byte - b'0')))
 }
 
 /// The value of a hex digit.

@@ -2,8 +2,8 @@
 -- Assumes nothing.
 use mathlib.Core.Path.{_≡_}
 use mathlib.Core.Bool.{_&&_}
-use Prim.Native.Nat.{_+_, _-_, _≤_}
-use lib.ListN.{length, take, drop}
+use Prim.Native.Nat.{_-_, _≤_}
+use lib.ListN.{take, drop}
 use Rattle.octets.specs.Compare.{sameBytes}
 use Rattle.octets.proofs.Chunks.{left, same-start, same-more, same-end}
 use borrow.Author.Needs.{needs}

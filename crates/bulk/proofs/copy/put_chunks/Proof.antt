@@ -1,8 +1,8 @@
 -- `bulk::copy::put_chunks` meets its contract.
 -- Assumes nothing.
-use mathlib.Core.Path.{_≡_, refl, sym, ap}
+use mathlib.Core.Path.{_≡_, refl, sym}
 use Prim.Native.Nat.{_+_, _-_, _≤_}
-use lib.ListN.{length, take, drop}
+use lib.ListN.{length, take}
 use Rattle.octets.proofs.Copies.{over-nil, chunk-then, and-again}
 use Rattle.octets.proofs.Lists.{part, from}
 use Rattle.octets.specs.Copy.{Wrote}

@@ -1,7 +1,6 @@
 -- `bulk::copy::put_four` meets its contract.
 -- Assumes nothing.
 use mathlib.Core.Path.{_∙_}
-use lib.ListN.{replicate}
 use borrow.Author.Needs.{needs}
 use Rattle.octets.proofs.Copies.{over-all}
 use Rattle.bulk.proofs.copy.put_four.Statement.{statement}

@@ -1,8 +1,7 @@
 -- `bulk::copy::put_through` meets its contract.
 -- Assumes nothing.
-use mathlib.Core.Path.{_≡_, sym, ap, _∙_}
+use mathlib.Core.Path.{_∙_}
 use native.Mathlib.Omega.{arith}
-use lib.ListN.{length, take}
 use borrow.Author.Needs.{needs}
 use Rattle.octets.proofs.Copies.{front-is}
 use Rattle.bulk.proofs.copy.put_through.Statement.{statement}

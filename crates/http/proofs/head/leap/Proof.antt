@@ -1,7 +1,6 @@
 -- `http::head::leap` meets its contract.
 -- Assumes nothing.
-use mathlib.Core.Path.{_≡_, refl}
-use Prim.Native.Nat.{_+_, _-_, _≤_}
+use Prim.Native.Nat.{_+_, _-_}
 use lib.ListN.{length}
 use Rattle.http.specs.Head.{Passed}
 use Rattle.http.proofs.Heads.{pass-none, pass-then, pass-chunks}

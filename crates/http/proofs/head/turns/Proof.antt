@@ -1,9 +1,8 @@
 -- `http::head::turns` meets its contract.
 -- Assumes nothing.
-use mathlib.Core.Path.{_≡_, refl}
+use mathlib.Core.Path.{_≡_}
 use mathlib.Core.Bool.{false}
 use Prim.Native.Nat.{_+_, _-_, _≤_}
-use lib.ListN.{length}
 use Rattle.http.specs.Head.{Passed}
 use Rattle.http.proofs.Heads.{pass-none, turn-on}
 use borrow.Author.Needs.{needs}

@@ -1,6 +1,6 @@
 -- `octets::compare::same_letters` meets its contract.
 -- Assumes nothing.
-use mathlib.Core.Path.{sym, _∙_}
+use mathlib.Core.Path.{sym}
 use Rattle.octets.proofs.Compares.{other-length}
 use Rattle.octets.specs.Compare.{lowerOf}
 use Rattle.octets.proofs.compare.same_letters.Statement.{statement}

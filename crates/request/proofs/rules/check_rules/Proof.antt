@@ -4,7 +4,7 @@ use Rattle.request.proofs.RuleSteps.{bad-host, unstated, two-types, is-
 use Rattle.request.proofs.rules.check_rules.Statement.{statement}
 use Rattle.request.proofs.rules.check_rules.Tie as tie
 use Rattle.request.specs.Named.{lowered, valuesOf}
-use Rattle.request.specs.Rules.{cappedOutcome, statedOutcome}
+use Rattle.request.specs.Rules.{statedOutcome}
 use Rattle.request.specs.Request.{hostRight, statedBy}
 use Rattle.http.specs.Fields.{fieldsAt}
 use Rattle.http.specs.RequestLine.{versionText}
@@ -23,7 +23,7 @@ host c = sym (c .before .host-right .ensures) ∙ not-false _ (c .if1 .left)
 stated :
     (c : tie.After-known-told)
     → (let a = c .before .before .before .before .before .before .before .before .args in
-    cappedOutcome (statedBy (valuesOf (bytes "content-length") (lowered (fieldsAt (a .head .now) (a .places .now) 0 (a .n))))) ≡ gives (c .before .l .given .0 .0))
+    statedBy (valuesOf (bytes "content-length") (lowered (fieldsAt (a .head .now) (a .places .now) 0 (a .n)))) ≡ gives (c .before .l .given .0 .0))
 stated c = sym (c .before .before .before .content-length .ensures) ∙ ap statedOutcome (c .before .l .given .1)
 
 host-right-requires : tie.Need-host-right-requires

@@ -4,12 +4,11 @@ use Rattle.request.proofs.RuleSteps.{lengths, states-none, states-two, 
 use Rattle.request.proofs.rules.content_length.Statement.{statement}
 use Rattle.request.proofs.rules.content_length.Tie as tie
 use Rattle.request.specs.Named.{lowered, valuesOf}
-use Rattle.request.specs.Rules.{cappedOutcome}
 use Rattle.request.proofs.NamedFields.{FoundIn}
 use Rattle.request.specs.Request.{statedBy}
 use Rattle.http.specs.Fields.{fieldsAt}
 use Rattle.octets.proofs.Lists.{part}
-use Rattle.octets.specs.Decimal.{numberRead, numberOf, capped}
+use Rattle.octets.specs.Decimal.{numberRead, numberOf}
 use Rattle.octets.specs.Outcome.{given}
 use Rattle.octets.specs.Text.{bytes}
 use borrow.Author.Needs.{needs}
@@ -27,11 +26,11 @@ found c = lengths _ _ _ (c .before .before .before .before .pre .2) (c .named .e
 says :
     (c : tie.After-read)
     → (let a = c .before .before .before .before .before .before .before .before .before .before .before .args in
-    cappedOutcome (statedBy (valuesOf (bytes "content-length") (lowered (fieldsAt (a .head .now) (a .places .now) 0 (a .n))))) ≡ given (numberRead (c .read .result)) 17)
+    statedBy (valuesOf (bytes "content-length") (lowered (fieldsAt (a .head .now) (a .places .now) 0 (a .n)))) ≡ given (numberRead (c .read .result)) 17)
 says c =
     let f = found (c .before .before .before .before .before .before .before) in
     states-one _ f (c .before .before .before .before .before .if1 .left) (c .before .before .before .if2 .left)
-    ∙ ap (λ s. given (capped (numberOf s)) 17) (sym (part (c .before .before .before .before .before .before .before .before .before .before .before .args .head .now) (c .before .before .before .before .before .before .before .named .result .start) (c .before .before .before .before .before .before .before .named .result .len)))
+    ∙ ap (λ s. given (numberOf s) 17) (sym (part (c .before .before .before .before .before .before .before .before .before .before .before .args .head .now) (c .before .before .before .before .before .before .before .named .result .start) (c .before .before .before .before .before .before .before .named .result .len)))
     ∙ ap (λ o. given o 17) (sym (c .read .ensures))
 
 slice-aggregate-named : tie.Need-slice-aggregate-named

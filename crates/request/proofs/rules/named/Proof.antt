@@ -1,6 +1,6 @@
 -- `request::rules::named` meets its contract.
 -- Assumes nothing.
-use Prim.Native.Nat.{_-_, _+_, _≤_}
+use Prim.Native.Nat.{_-_, _≤_}
 use Rattle.request.proofs.NamedFields.{found-few, found-next}
 use Rattle.request.specs.Rules.{withField, foundOf}
 use Rattle.request.proofs.rules.named.Statement.{statement}
