@@ -83,7 +83,7 @@ extern "C" {
 
 /* The version, of which this is the one source: pkg-config and cargo are told the same. */
 #define OYINKAFUBO_VERSION_MAJOR 0
-#define OYINKAFUBO_VERSION_MINOR 1
+#define OYINKAFUBO_VERSION_MINOR 2
 #define OYINKAFUBO_VERSION_PATCH 0
 
 /* The version as text: "MAJOR.MINOR.PATCH". */
@@ -101,7 +101,7 @@ enum oy_refusal {
     OY_BLOCK = 5,              /* block malformed */
     OY_HEADERS = 6,            /* more than OY_MAX_HEADERS headers */
     OY_TWICE = 7,              /* two headers with equal names */
-    OY_FIRST = 8,              /* the first header is not CONTENT_LENGTH with one or more digits */
+    OY_FIRST = 8,              /* the first header is not CONTENT_LENGTH with 1 to OY_MAX_DIGITS digits */
     OY_BODY_LONG = 9,          /* stated body length above OY_MAX_BODY */
     OY_SCGI = 10,              /* no header SCGI with value 1 */
     OY_HEAD_LONG = 11,         /* no end of the HTTP head in its first OY_MAX_HEAD bytes */
@@ -110,7 +110,7 @@ enum oy_refusal {
     OY_TARGET = 14,            /* target refused */
     OY_FIELD = 15,             /* field line refused, or more than OY_MAX_FIELDS of them */
     OY_HOST = 16,              /* HTTP/1.1 without one Host field, HTTP/1.0 with more than one */
-    OY_CONTENT = 17,           /* Content-Length malformed or repeated, Content-Type repeated */
+    OY_CONTENT = 17,           /* Content-Length repeated or not 1 to OY_MAX_DIGITS digits; Content-Type repeated */
     OY_TRANSFER_ENCODING = 18, /* Transfer-Encoding present */
     OY_MOUNT = 19,             /* no mount fits the path */
     OY_LENT = 20,              /* connection facts, site settings or mounts wrong */
@@ -126,6 +126,7 @@ enum oy_limit {
     OY_MAX_BLOCK = 16384,   /* bytes of a request's block */
     OY_MAX_HEADERS = 128,   /* headers of a request's block */
     OY_MAX_BODY = 1048576,  /* bytes of a body */
+    OY_MAX_DIGITS = 10,     /* digits of CONTENT_LENGTH, Content-Length and SERVER_PORT, zeros in front counted */
     OY_MAX_HEAD = 8192,     /* bytes of an HTTP or script response head with its empty line */
     OY_MAX_METHOD = 32,     /* bytes of a method */
     OY_MAX_TARGET = 4096,   /* bytes of a target */

@@ -54,6 +54,8 @@ ends "refused 4" "${example}0:x" 101 "refused 4"
 ends "refused 5" '1:\000,' "refused 5"
 ends "refused 7" '41:CONTENT_LENGTH\0000\000CONTENT_LENGTH\0000\000SCGI\0001\000,' "refused 7"
 ends "refused 8" "${example}0:," 101 "refused 8"
+eleven='24:CONTENT_LENGTH\0000\000SCGI\0001\000,34:CONTENT_LENGTH\00000000000003\000SCGI\0001\000,abc24:CONTENT'
+ends "refused 8 between two others" "$eleven" 28 "refused 8"
 ends "refused 9" '30:CONTENT_LENGTH\0001048577\000SCGI\0001\000,' "refused 9"
 ends "refused 10" '17:CONTENT_LENGTH\0000\000,' "refused 10"
 
@@ -65,6 +67,15 @@ ends "refused 10" '17:CONTENT_LENGTH\0000\000,' "refused 10"
 { printf '%d:' "$(wc -c <"$dir/block")"; cat "$dir/block"; printf ,; } >"$dir/in"
 echo "refused 6" >"$dir/want"
 check "refused 6"
+
+# what README says finds the spools that a number of more than ten digits ends
+mkdir "$dir/spools"
+ln -s "$PWD/target" "$dir/spools/target"
+# shellcheck disable=SC2059
+printf "$eleven" >"$dir/spools/eleven.spool"
+requests_of_28 3 >"$dir/spools/good.spool"
+sed -n '/^    for file in/,/^    done/p' README.md >"$dir/which"
+[ "$(cd "$dir/spools" && bash ../which)" = "eleven.spool: request 2, at byte 28" ] || complain "README's search for spools that end in refused 8"
 
 # the largest body, whole and cut
 request 1048576 >"$dir/in"

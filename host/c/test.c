@@ -304,6 +304,30 @@ static void test_own_variable(void)
     free(found);
 }
 
+/* A body length of OY_MAX_DIGITS digits, zeros in front counted, and of one more: in the reader, the writer and the gateway. */
+static void test_digits(void)
+{
+    static const uint64_t codes[][3] = {{0, 0, 0}, {OY_FIRST, OY_FIRST, OY_CONTENT}};
+    uint64_t *answer = list(OY_READ_NUMBERS);
+    struct bytes out = room(1000), body = text("hi");
+    char block[100], request[200];
+    int more;
+    for (more = 0; more < 2; more++) {
+        struct bytes lent;
+        sprintf(block, "CONTENT_LENGTH|%0*d|SCGI|1|", OY_MAX_DIGITS + more, 2);
+        sprintf(request, "%u:%s,hi", (unsigned)strlen(block), block);
+        CHECK(on_text(oy_scgi_read, request, answer, OY_READ_NUMBERS) == codes[more][0]);
+        lent = text(block);
+        CHECK(oy_scgi_write(lent.at, lent.len, body.at, body.len, out.at, out.len, answer, OY_WRITE_NUMBERS) == codes[more][1]);
+        free(lent.at);
+        sprintf(request, "POST /jobs HTTP/1.0\r\nContent-Length: %0*d\r\n\r\nhi", OY_MAX_DIGITS + more, 2);
+        CHECK(forward(good_facts, good_site, good_mounts, request, out, answer) == codes[more][2]);
+    }
+    free(out.at);
+    free(body.at);
+    free(answer);
+}
+
 /* Each refusal has a text of its own, and a status exactly where a server has something to answer. */
 static void test_text(void)
 {
@@ -351,6 +375,7 @@ static void (*const tests[])(void) = {
     test_gateway,
     test_start,
     test_own_variable,
+    test_digits,
     test_text,
     test_response,
 };

@@ -192,7 +192,8 @@ mod gateway {
         for (name, side) in sides() {
             for (http, expected) in cases {
                 let (given, out) = forward(side, http);
-                let body = given.map(|numbers| out[..numbers[0] as usize].rsplit(|&byte| byte == b',').next().map_or(0, |body| body.len() as u64));
+                let body =
+                    given.map(|numbers| out[..numbers[0] as usize].rsplit(|&byte| byte == b',').next().map_or(0, |body| body.len() as u64));
                 assert_eq!(body, expected, "{name}: {}", String::from_utf8_lossy(http));
             }
             for port in ["9999999999", "10000000080", "0000000080", "00000000080", "18446744073709551696"] {

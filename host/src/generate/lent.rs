@@ -128,9 +128,13 @@ pub fn breach(random: &mut Random) -> Vec<Vec<u8>> {
     lent.blocks()
 }
 
+/// Ports that are no 1 to 65535 in digits without a leading zero, two of them in eleven digits, one that is 80 where it wraps.
+const BAD_PORTS: &[&str] =
+    &["0", "080", "65536", "70000", "9999999999", "10000000080", "00000000080", "18446744073709551696", "8a", " 80", "-1", ""];
+
 fn breach_of_server(random: &mut Random, lent: &mut Lent) {
     let name = random.pick(&SERVER);
-    let bad_port = random.pick(&["0", "080", "65536", "70000", "9999999999", "10000000080", "00000000080", "18446744073709551696", "8a", " 80", "-1", ""]);
+    let bad_port = random.pick(BAD_PORTS);
     lent.site.retain(|header| header.0 != name.as_bytes());
     lent.facts.retain(|header| header.0 != name.as_bytes());
     let to_facts = random.chance(50);
