@@ -126,7 +126,7 @@ enum oy_limit {
     OY_MAX_BLOCK = 16384,   /* bytes of a request's block */
     OY_MAX_HEADERS = 128,   /* headers of a request's block */
     OY_MAX_BODY = 1048576,  /* bytes of a body */
-    OY_MAX_DIGITS = 10,     /* digits of CONTENT_LENGTH, Content-Length and SERVER_PORT, zeros in front counted */
+    OY_MAX_DIGITS = 10,     /* digits of a CONTENT_LENGTH or a Content-Length, zeros in front counted */
     OY_MAX_HEAD = 8192,     /* bytes of an HTTP or script response head with its empty line */
     OY_MAX_METHOD = 32,     /* bytes of a method */
     OY_MAX_TARGET = 4096,   /* bytes of a target */

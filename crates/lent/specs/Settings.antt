@@ -43,7 +43,7 @@ abbrev pub portNumber : Option ℕ → Bool
 portNumber none = false
 portNumber (some n) = leb 1 n && leb n 65535
 
--- "the port is 1 to 65535 in digits without a leading zero"; the digit 0 is 48
+-- "the port is 1 to 65535 in digits without a leading zero"; 02 §2: "a longer one is .. 20 in the port". The digit 0 is 48
 abbrev pub isPort : List ℕ → Bool
 isPort v = not (begins (48 ∷ []) v) && portNumber (numberOf v)
 

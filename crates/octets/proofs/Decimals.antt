@@ -10,7 +10,7 @@ use native.Mathlib.Omega.{arith}
 use lib.Dec.{leb, ltb, eqb}
 use lib.ListN.{length, length-append}
 use borrow.Author.Tests.{ltb-true, ltb-false, lt-ltb, le-ltb, le-leb, lt-leb, leb-true, eqb-true, eqb-false}
-use Rattle.octets.specs.Kinds.{isDigit}
+use Rattle.octets.specs.Kinds.{isDigit, within}
 use Rattle.octets.specs.Scan.{allOf}
 use Rattle.octets.specs.Decimal.{numberFrom, numberOf, digitsIn, decimal, Says, plain, zero-before}
 use Rattle.octets.proofs.Bools.{and-left, and-right, and-false}
@@ -110,14 +110,21 @@ number-decimal n =
     (λ n s t h ih. ih ∙ number-digit (n / 10) (n % 10) n s (omega arith) (omega arith))
     n n [] (omega arith)
 
+-- a number between two others, and one above both
+inside : (a z n : ℕ) → a ≤ n → n ≤ z → within a z n ≡ true
+inside a z n h l = rw (le-leb a n h, le-leb n z l)
+
+above : (a z n : ℕ) → z < n → within a z n ≡ false
+above a z n h = rw (lt-leb n z h, and-false)
+
 pub number-some : (s : List ℕ) → 0 < length s → length s ≤ 10 → numberOf s ≡ numberFrom 0 s
-number-some s h l = rw (le-leb 1 (length s) h, le-leb (length s) 10 l)
+number-some s h l = ap (λ (t : Bool). cond t (numberFrom 0 s) none) (inside 1 _ (length s) h l)
 
 pub number-empty : (s : List ℕ) → length s ≡ 0 → numberOf s ≡ none
 number-empty s h = rw h
 
 pub number-long : (s : List ℕ) → 10 < length s → numberOf s ≡ none
-number-long s h = rw (lt-leb (length s) 10 h, and-false)
+number-long s h = ap (λ (t : Bool). cond t (numberFrom 0 s) none) (above 1 _ (length s) h)
 
 says-number : {n : ℕ} {v : List ℕ} → Says n v → (0 < length v) × (numberFrom 0 v ≡ some n)
 unfolding numberFrom isDigit

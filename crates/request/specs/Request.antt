@@ -24,7 +24,8 @@ hostRight version fs =
     let hosts = length (valuesOf (bytes "host") fs) in
     cond (sameBytes version (bytes "HTTP/1.1")) (eqb hosts 1) (leb hosts 1)
 
--- the body length that the Content-Length fields state: "At most one Content-Length (one or more digits; absent means 0)", 02 §2: not above ten
+-- the body length that the Content-Length fields state: "At most one Content-Length (one or more digits; absent means 0)", and 02 §2: "at
+-- most 10 digits: a longer one is .. 17 in HTTP"
 abbrev pub statedBy : List (List ℕ) → Outcome ℕ
 statedBy [] = gives 0
 statedBy (v ∷ []) = given (numberOf v) 17

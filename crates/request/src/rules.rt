@@ -107,7 +107,7 @@ fn content_length(head: &[u8], places: &[u64], n: usize) -> Stated
     let end = start + lengths.len;
     let v = decimal::read(&head[start..end]);
     let Number::Value(m) = v else {
-        // 17: "Content-Length or Content-Type rule"; the length must be 1 to 10 digits.
+        // 17: "Content-Length or Content-Type rule"; 02 §2: "at most 10 digits: a longer one is .. 17 in HTTP".
         return Stated::Refused(17);
     };
     Stated::Length(m)

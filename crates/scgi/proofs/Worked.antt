@@ -4,16 +4,16 @@ use Prim.Native.Nat.{ℕ}
 use Prim.Native.String.{String}
 use mathlib.Core.Path.{_≡_, refl}
 use mathlib.Core.List.{List, [], _∷_, _++_, map}
-use mathlib.Core.Option.{none}
 use lib.ListN.{replicate}
 use Rattle.octets.specs.Text.{bytes, barred}
 use Rattle.octets.specs.Outcome.{Outcome, refused, gives}
 use Rattle.octets.specs.Kinds.{isDigit}
 use Rattle.octets.specs.Compare.{sameBytes}
 use Rattle.octets.specs.Lists.{isIn, different}
-use Rattle.octets.specs.Decimal.{numberFrom, numberOf, digitsIn}
+use Rattle.octets.specs.Decimal.{numberFrom, digitsIn}
 use Rattle.headers.specs.Block.{Header, printed, paired}
 use Rattle.octets.specs.Parts.{parted}
+use Rattle.scgi.specs.Grammar.{scgi1}
 use Rattle.scgi.specs.Check.{has, checkBlock}
 use Rattle.scgi.specs.Netstring.{lengthFrom}
 use Rattle.scgi.specs.Read.{Places, readOf}
@@ -116,6 +116,9 @@ unfolding printed checkBlock parted paired different isIn sameBytes
 header-limit = (refl, refl, refl)
 
 -- 02 §2: "A worker choked on a CONTENT_LENGTH with four thousand leading zeros"
-pub many-zeros : numberOf (replicate 4000 48 ++ bytes "3") ≡ none
-unfolding numberFrom isDigit
+abbrev pub zeros : Header
+zeros = record { name = bytes "CONTENT_LENGTH"; value = replicate 4000 48 ++ bytes "3" }
+
+pub many-zeros : checkBlock (printed (zeros ∷ scgi1 ∷ [])) ≡ refused 8
+unfolding printed checkBlock parted paired different isIn sameBytes numberFrom isDigit
 many-zeros = refl

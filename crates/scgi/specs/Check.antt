@@ -17,7 +17,8 @@ use Rattle.scgi.specs.declared.check.Stated.the-variants.{Length, Refuse
 use Rattle.scgi.specs.declared.check.Checked.{Checked}
 use Rattle.scgi.specs.declared.check.Checked.the-variants.{Body, Refused}
 
--- the body length that the first header states; 8: "first header is not CONTENT_LENGTH with one or more digits", 02 §2: of more than 10 too
+-- the body length that the first header states; 8: "first header is not CONTENT_LENGTH with one or more digits", and 02 §2: "at most 10
+-- digits: a longer one is 8 in SCGI"
 abbrev pub statedBy : List Header → Outcome ℕ
 statedBy [] = refused 8
 statedBy (h ∷ hs) = need (sameBytes (h .name) (bytes "CONTENT_LENGTH")) 8 (given (numberOf (h .value)) 8)

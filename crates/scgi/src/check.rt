@@ -36,7 +36,7 @@ impl Stated {
 }
 
 // The body length that the first header of a well formed block states. Whatever is amiss with it, no header too, is 8: "first header is not
-// CONTENT_LENGTH with one or more digits", and 02 §2 allows ten.
+// CONTENT_LENGTH with one or more digits", and 02 §2: "at most 10 digits: a longer one is 8 in SCGI".
 fn stated_length(block: &[u8]) -> Stated
     requires { ⌜ wellFormed (now block) ≡ true ⌝ }
     ensures { λ r. ⌜ statedOutcome r ≡ statedIn (now (block .entry)) ⌝ }
