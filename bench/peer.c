@@ -132,7 +132,7 @@ static char *put_fields(char *to, const struct phr_header *fields, size_t count)
         to = put(to, f->value, f->value_len);
         for (j = i + 1; j < count; j++)
             if (is_name(&fields[j], f->name, f->name_len)) {
-                to = put(to, ", ", 2);
+                to = put(to, IS(f, "cookie") ? "; " : ", ", 2);
                 to = put(to, fields[j].value, fields[j].value_len);
             }
         *to++ = '\0';

@@ -83,7 +83,7 @@ extern "C" {
 
 /* The version, of which this is the one source: pkg-config and cargo are told the same. */
 #define OYINKAFUBO_VERSION_MAJOR 0
-#define OYINKAFUBO_VERSION_MINOR 2
+#define OYINKAFUBO_VERSION_MINOR 3
 #define OYINKAFUBO_VERSION_PATCH 0
 
 /* The version as text: "MAJOR.MINOR.PATCH". */
@@ -268,7 +268,7 @@ uint64_t oy_spool(const uint8_t *bytes, size_t len, uint64_t *lengths, size_t le
  * Writes the SCGI request for the HTTP/1.0 or 1.1 request at the start of `http` to `out`. Bytes after it are not looked at.
  * `facts` has REMOTE_ADDR, and AUTH_TYPE with REMOTE_USER where the user is known; `facts` or else `site` has SERVER_NAME,
  * SERVER_PORT and SERVER_SOFTWARE; `mounts` has a path for each name and a pool for each value, and the longest path that fits
- * wins.
+ * wins. Fields of one name become one variable, their values joined in order with ", ", those of Cookie with "; ".
  * Gives: the numbers of enum oy_gateway_index.
  * Refusals in their order: 20, then 11 or 1 where the head has no end, 12, 13, 14, 15, 16, 17, 18, 19, 9, 1 where the body is
  * short, 22, 21.

@@ -42,7 +42,7 @@ impl Meaning {
         }
         match self.fields.iter_mut().find(|field| field.0 == name) {
             Some((_, joined)) => {
-                joined.extend_from_slice(b", ");
+                joined.extend_from_slice(separator(&name));
                 joined.extend_from_slice(value);
             }
             None => self.fields.push((name, value.to_vec())),
@@ -50,15 +50,24 @@ impl Meaning {
     }
 }
 
+/// What stands between two values of a name in lower case.
+pub fn separator(name: &[u8]) -> &'static [u8] {
+    match name {
+        b"cookie" => b"; ",
+        _ => b", ",
+    }
+}
+
 /// The bytes before and after the first place of a mark; nothing after where it is not there.
-fn split<'a>(bytes: &'a [u8], mark: &[u8]) -> (&'a [u8], &'a [u8]) {
+pub fn split<'a>(bytes: &'a [u8], mark: &[u8]) -> (&'a [u8], &'a [u8]) {
     match bytes.windows(mark.len()).position(|window| window == mark) {
         Some(at) => (&bytes[..at], &bytes[at + mark.len()..]),
         None => (bytes, b""),
     }
 }
 
-fn trim(mut value: &[u8]) -> &[u8] {
+/// A value without the spaces and tabs at both ends.
+pub fn trim(mut value: &[u8]) -> &[u8] {
     while let [b' ' | b'\t', rest @ ..] = value {
         value = rest;
     }

@@ -190,11 +190,17 @@ mod gateway {
         }
     }
 
+    /// How many lines begin with a Cookie field.
+    fn cookies(request: &[u8]) -> usize {
+        request.split(|&byte| byte == b'\n').filter(|line| line.to_ascii_lowercase().starts_with(b"cookie:")).count()
+    }
+
     /// Two accepted requests give equal bytes exactly when they have equal meanings.
     #[test]
     fn equal_bytes_exactly_when_equal_meanings() {
         let mut random = Random::seeded("meanings");
         let mut seen = [0; 2];
+        let mut of_cookies = [0; 2];
         for _ in 0..40_000 {
             let lent = lent::good(&mut random);
             let blocks = lent.blocks();
@@ -206,8 +212,10 @@ mod gateway {
             let equal = meaning(&one[..first.2]) == meaning(&two[..second.2]);
             assert_eq!(first.0 == second.0, equal, "{:?}\n{:?}", String::from_utf8_lossy(&one), String::from_utf8_lossy(&two));
             seen[usize::from(equal)] += 1;
+            of_cookies[usize::from(equal)] += usize::from(cookies(&one) != cookies(&two));
         }
         println!("meanings: {} pairs differ, {} are equal", seen[0], seen[1]);
         assert!(seen.iter().all(|&pairs| pairs > 3_000), "pairs: {seen:?}");
+        assert!(of_cookies.iter().all(|&pairs| pairs > 50), "pairs with unequal numbers of Cookie lines: {of_cookies:?}");
     }
 }

@@ -121,6 +121,7 @@ fn responses() {
 mod gateway {
     use oyinkafubo_host::calls::{Blocks, Calls};
     use oyinkafubo_host::case::sides;
+    use oyinkafubo_host::meaning::meaning;
     use oyinkafubo_host::recorded;
     use oyinkafubo_host::text::bytes;
 
@@ -200,6 +201,50 @@ mod gateway {
                 lent[1] = bytes(&format!("SERVER_NAME|q|SERVER_SOFTWARE|g|SERVER_PORT|{port}|"));
                 let blocks = Blocks { facts: &lent[0], site: &lent[1], mounts: &lent[2] };
                 assert_eq!(side.forward(blocks, request, &mut [0; 1000]).map(|given| given.used), Err(20), "{name}: {port}");
+            }
+        }
+    }
+
+    /// The SCGI bytes of a request with these field lines, with | for NUL.
+    fn with_fields(side: &dyn Calls, lines: &str) -> String {
+        let http = format!("GET /jobs HTTP/1.0\r\n{lines}\r\n");
+        let (given, out) = forward(side, http.as_bytes());
+        let written = given.expect("accepted")[0] as usize;
+        String::from_utf8_lossy(&out[..written]).replace('\0', "|")
+    }
+
+    /// Values of Cookie, letter case aside, are joined with a semicolon and a space, those of any other name as before.
+    #[test]
+    fn cookies() {
+        let cases = [
+            ("Cookie: a\r\n", "HTTP_COOKIE|a|,"),
+            ("Cookie: a\r\nCookie: b\r\n", "HTTP_COOKIE|a; b|,"),
+            ("Cookie: a\r\nCOOKIE: b\r\ncookie: c\r\n", "HTTP_COOKIE|a; b; c|,"),
+            ("Cookie:\r\nCookie: a\r\n", "HTTP_COOKIE|; a|,"),
+            ("Cookie: a\r\nCookie:\r\n", "HTTP_COOKIE|a; |,"),
+            ("Cookie: a;\r\nCookie: b\r\n", "HTTP_COOKIE|a;; b|,"),
+            ("Cookie2: a\r\nCookie2: b\r\n", "HTTP_COOKIE2|a, b|,"),
+            ("Set-Cookie: a\r\nSet-Cookie: b\r\n", "HTTP_SET_COOKIE|a, b|,"),
+            ("Cooki: a\r\nCooki: b\r\n", "HTTP_COOKI|a, b|,"),
+            ("X: 1\r\nCookie: a\r\nX: 2\r\nCookie: b\r\nY: 3\r\n", "HTTP_X|1, 2|HTTP_COOKIE|a; b|HTTP_Y|3|,"),
+        ];
+        for (name, side) in sides() {
+            for (lines, end) in cases {
+                let bytes = with_fields(side, lines);
+                assert!(bytes.ends_with(&format!("|SERVER_SOFTWARE|gate/1|{end}")), "{name}: {lines} gives {bytes}");
+            }
+        }
+    }
+
+    /// Two Cookie fields are the same as one of the joined value; one with a comma is another.
+    #[test]
+    fn meanings_of_cookies() {
+        let two = "Cookie: a\r\nCookie: b\r\n";
+        let meant = |lines: &str| meaning(format!("GET /jobs HTTP/1.0\r\n{lines}\r\n").as_bytes());
+        for (one, equal) in [("Cookie: a; b\r\n", true), ("Cookie: a, b\r\n", false), ("Cookie: a;b\r\n", false)] {
+            assert_eq!(meant(one) == meant(two), equal, "{one}");
+            for (name, side) in sides() {
+                assert_eq!(with_fields(side, one) == with_fields(side, two), equal, "{name}: {one}");
             }
         }
     }

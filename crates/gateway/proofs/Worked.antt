@@ -26,7 +26,7 @@ use Rattle.http.specs.Fields.{fieldOf, eachField}
 use Rattle.lent.specs.Settings.{settingsOf}
 use Rattle.lent.specs.Mounts.{placed, begins, mountOf}
 use Rattle.lent.specs.Lent.{ends, allMounts, lentOf}
-use Rattle.variables.specs.Fields.{passed, addedBy, grouped}
+use Rattle.variables.specs.Fields.{passed, separator, addedBy, grouped}
 use Rattle.request.specs.Named.{valuesOf}
 use Rattle.variables.specs.Variables.{fixed}
 use Rattle.request.specs.Request.{hostRight, contentOf, rulesOf, requestOf}
@@ -44,11 +44,11 @@ exampleOutput =
     barred
     "267:CONTENT_LENGTH|0|SCGI|1|GATEWAY_INTERFACE|CGI/1.1|PATH_INFO|/7|QUERY_STRING|x=1|REMOTE_ADDR|10.0.0.9|REQUEST_METHOD|GET|REQUEST_URI|/jobs/7?x=1|SCRIPT_NAME|/jobs|SERVER_NAME|q.example|SERVER_PORT|80|SERVER_PROTOCOL|HTTP/1.1|SERVER_SOFTWARE|gate/1|HTTP_HOST|q.example|,"
 
--- fields that are joined, fields that are not passed, and a body with bytes after it
+-- fields that are joined, cookies among them, fields that are not passed, and a body with bytes after it
 abbrev pub joinedOutput : List ℕ
 joinedOutput =
     barred
-    "312:CONTENT_LENGTH|5|SCGI|1|CONTENT_TYPE|text/plain|GATEWAY_INTERFACE|CGI/1.1|PATH_INFO||QUERY_STRING||REMOTE_ADDR|10.0.0.9|REQUEST_METHOD|POST|REQUEST_URI|/jobs|SCRIPT_NAME|/jobs|SERVER_NAME|q.example|SERVER_PORT|80|SERVER_PROTOCOL|HTTP/1.0|SERVER_SOFTWARE|gate/1|HTTP_ACCEPT|a, b|HTTP_X_JOB_!|, 1|HTTP_TE|trailers|,hello"
+    "347:CONTENT_LENGTH|5|SCGI|1|CONTENT_TYPE|text/plain|GATEWAY_INTERFACE|CGI/1.1|PATH_INFO||QUERY_STRING||REMOTE_ADDR|10.0.0.9|REQUEST_METHOD|POST|REQUEST_URI|/jobs|SCRIPT_NAME|/jobs|SERVER_NAME|q.example|SERVER_PORT|80|SERVER_PROTOCOL|HTTP/1.0|SERVER_SOFTWARE|gate/1|HTTP_ACCEPT|a, b|HTTP_X_JOB_!|, 1|HTTP_TE|trailers|HTTP_COOKIE|c; d|HTTP_COOKIE2|x, y|,hello"
 
 -- 01's example, and cases that 01 settles by its words and that are easy to slip on
 unfoldable pub further : List Case
@@ -73,11 +73,15 @@ further =
           ∷ "TE: trailers"
           ∷ "x-job-!: 1"
           ∷ "Proxy-Authorization: Basic x"
+          ∷ "Cookie: c"
+          ∷ "Cookie2: x"
+          ∷ "COOKIE: d"
+          ∷ "cookie2:y"
           ∷ "Content-Length: 005"
           ∷ [])
           "hello!"
           400;
-      answer = forward (gives (record { scgi = joinedOutput; poolStart = 6; poolLength = 1; used = 228 }));
+      answer = forward (gives (record { scgi = joinedOutput; poolStart = 6; poolLength = 1; used = 273 }));
     }
     ∷ record { asked = step ("GET /jobs HTTP/1.1" ∷ "Job_Id: 1" ∷ []) "" 0; answer = forward (refused 15) }
     ∷ record { asked = step ("GET /jobs HTTP/1.1" ∷ []) "" 0; answer = forward (refused 16) }
@@ -98,5 +102,5 @@ further =
     ∷ []
 
 pub further-right : map (λ c. answerTo (c .asked)) further ≡ map (λ c. c .answer) further
-unfolding further sameBytes isIn numberFrom digitsIn isDigit printed parted paired different stepWith lentOf settingsOf allMounts placed begins ends mountOf valueIn forwardOf writtenFor headOf endFrom linesFrom requestOf requestLineOf versionOf isMethod isVersion isToken isLetter isHex isTarget isName isValue isBlank run allOf count kept escapesRight hexValue decodedFrom pathOf queryOf rawRight noDots segmentsRight decodedRight targetOf fieldOf eachField lowerOf upperOf rulesOf hostRight contentOf valuesOf bodyOf fixed passed addedBy grouped
+unfolding further sameBytes isIn numberFrom digitsIn isDigit printed parted paired different stepWith lentOf settingsOf allMounts placed begins ends mountOf valueIn forwardOf writtenFor headOf endFrom linesFrom requestOf requestLineOf versionOf isMethod isVersion isToken isLetter isHex isTarget isName isValue isBlank run allOf count kept escapesRight hexValue decodedFrom pathOf queryOf rawRight noDots segmentsRight decodedRight targetOf fieldOf eachField lowerOf upperOf rulesOf hostRight contentOf valuesOf bodyOf fixed passed separator addedBy grouped
 further-right = refl

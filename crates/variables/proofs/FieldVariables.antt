@@ -107,7 +107,8 @@ seen-end x head ps j h =
 -- What later fields add to a value.
 
 pub added-next :
-    (head ps x : List ℕ) (n j : ℕ) → j < n → addedBy (lowFrom head ps n j) x ≡ addedAt head ps x j ++ addedBy (lowFrom head ps n (j + 1)) x
+    (head ps x : List ℕ) (n j : ℕ) → j < n
+    → addedBy (lowFrom head ps n j) x ≡ addedAt head ps x (separator x) j ++ addedBy (lowFrom head ps n (j + 1)) x
 unfolding addedBy
 added-next head ps x n j h = ap (λ (fs : List Field). addedBy (lowered fs) x) (fields-in-turn .next head ps n j h) ∙ by (sameBytes (lowName head ps j) x)
   where
@@ -115,7 +116,7 @@ added-next head ps x n j h = ap (λ (fs : List Field). addedBy (lowered fs) x) (
         (t : Bool)
         → cond t (separator x ++ (fieldAt head ps j .value ++ addedBy (lowFrom head ps n (j + 1)) x)) (addedBy (lowFrom head ps n (j + 1)) x)
         ≡ ifThere t (separator x ++ fieldAt head ps j .value) ++ addedBy (lowFrom head ps n (j + 1)) x
-    by true = refl
+    by true = sym (append-assoc (separator x) _ _)
     by false = refl
 
 pub added-end : (head ps x : List ℕ) (n j : ℕ) → n ≤ j → addedBy (lowFrom head ps n j) x ≡ []

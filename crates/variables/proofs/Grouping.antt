@@ -6,6 +6,7 @@ use mathlib.Core.Bool.{Bool, true, false, cond, _||_}
 use mathlib.Core.List.{List, [], _∷_, _++_}
 use native.Mathlib.Omega.{arith}
 use lib.ListN.{length, length-map}
+use Rattle.octets.specs.Text.{bytes}
 use Rattle.octets.specs.Kinds.{isName}
 use Rattle.octets.specs.Compare.{sameBytes, lowerOf}
 use Rattle.octets.specs.Lists.{All, no-more, _&_, NoNul, isIn, different}
@@ -62,8 +63,13 @@ all-different (f ∷ fs) seen = by (isIn (f .name) seen) (all-different fs (f .n
 
 -- Bytes.
 
+either-bytes : (t : Bool) {a b : List ℕ} → NoNul a → NoNul b → NoNul (cond t a b)
+either-bytes true p q = p
+either-bytes false p q = q
+
 separator-bytes : (n : List ℕ) → NoNul (separator n)
-separator-bytes n = no-nul (separator n) refl
+unfolding separator
+separator-bytes n = either-bytes (sameBytes n (bytes "cookie")) (no-nul _ refl) (no-nul _ refl)
 
 module _ {k : ℕ → Bool} where
   added-bytes : (fs : List Field) (n : List ℕ) → All (ProperField k) fs → NoNul (addedBy fs n)

@@ -7,7 +7,7 @@ use Rattle.octets.specs.Compare.{sameBytes, lowerOf}
 use Rattle.octets.specs.Lists.{isIn}
 use Rattle.http.specs.Fields.{Field, fieldAt, fieldsAt}
 use Rattle.request.specs.Named.{lowered}
-use Rattle.variables.specs.Fields.{notPassed, separator, addedBy}
+use Rattle.variables.specs.Fields.{notPassed, addedBy}
 use Rattle.variables.specs.Variables.{httpName}
 use Rattle.variables.specs.Put.{variable, ifThere}
 
@@ -24,9 +24,9 @@ namesBefore head ps (suc k) = lowName head ps k ∷ namesBefore head ps k
 abbrev pub lowFrom : List ℕ → List ℕ → ℕ → ℕ → List Field
 lowFrom head ps n k = lowered (fieldsAt head ps k (n - k))
 
--- what the field with number j adds to the value of the name x
-abbrev pub addedAt : List ℕ → List ℕ → List ℕ → ℕ → List ℕ
-addedAt head ps x j = ifThere (sameBytes (lowName head ps j) x) (separator x ++ fieldAt head ps j .value)
+-- what the field with number j adds to the value of the name x, where s stands between two values
+abbrev pub addedAt : List ℕ → List ℕ → List ℕ → List ℕ → ℕ → List ℕ
+addedAt head ps x s j = ifThere (sameBytes (lowName head ps j) x) (s ++ fieldAt head ps j .value)
 
 -- the value of the field with number k, with what the later ones of n add to it
 abbrev pub valueFrom : List ℕ → List ℕ → ℕ → ℕ → List ℕ

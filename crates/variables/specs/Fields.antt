@@ -26,9 +26,10 @@ unfoldable pub passed : List Field → List Field
 passed [] = []
 passed (f ∷ fs) = cond (isIn (f .name) notPassed) (passed fs) (f ∷ passed fs)
 
--- what stands between two values of the name n: "joined in order with a comma and a space", for every name
-abbrev pub separator : List ℕ → List ℕ
-separator n = bytes ", "
+-- what stands between two values of the name n: 02 §4, "Cookie values are joined with a semicolon and a space;
+-- every other field as before", which is "a comma and a space"
+unfoldable pub separator : List ℕ → List ℕ
+separator n = cond (sameBytes n (bytes "cookie")) (bytes "; ") (bytes ", ")
 
 -- what the fields fs, that stand after a field of the name n, add to its value
 unfoldable pub addedBy : List Field → List ℕ → List ℕ

@@ -4,12 +4,11 @@ ghost use mathlib.Core.Bool.{not};
 ghost use mathlib.Core.List.{[], _∷_, _++_, map};
 ghost use Prim.Native.Nat.{_+_, _*_, _≤_, _<_};
 ghost use lib.ListN.{length, take, drop};
-ghost use Rattle.octets.specs.Text.{bytes};
 ghost use Rattle.octets.specs.Compare.{lowerOf};
 ghost use Rattle.octets.specs.Lists.{isIn, different};
 ghost use Rattle.headers.specs.Block.{printed};
 ghost use Rattle.http.specs.Fields.{fieldAt, fieldsAt, Inside, AllInside};
-ghost use Rattle.variables.specs.Fields.{notPassed, addedBy, groupedOf};
+ghost use Rattle.variables.specs.Fields.{notPassed, separator, addedBy, groupedOf};
 ghost use Rattle.variables.specs.Variables.{variableByte, httpName, httpVariable};
 ghost use Rattle.variables.specs.Put.{variable, ifThere, PutDone};
 ghost use Rattle.variables.specs.FieldVariables.{lowName, namesBefore, lowFrom, addedAt, valueFrom, makes, variableFrom};
@@ -135,28 +134,38 @@ fn put_http_name(out: &mut [u8], at: usize, name: &[u8]) -> Put
     put_piece(out, m, b"\0")
 }
 
-// Writes a comma, a space and the value of the field with number j.
-fn put_joined(head: &[u8], places: &[u64], j: usize, out: &mut [u8], at: usize) -> Put
-    requires { ⌜ (4 * j + 3 < length (now places)) × Inside (now head) (now places) j × (at ≤ length (now out)) ⌝ }
-    ensures { λ r. ⌜ PutDone (now (out .entry)) at (bytes ", " ++ fieldAt (now (head .entry)) (now (places .entry)) j .value) (now (out .exit)) r ⌝ }
+// What stands between two values of a name.
+fn separator(name: &[u8]) -> [u8; 2]
+    ensures { λ r. ⌜ r ≡ separator (map lowerOf (now (name .entry))) ⌝ }
 {
-    let p = put_piece(out, at, b", ");
+    if same_letters(name, b"cookie") {
+        return *b"; ";
+    }
+    *b", "
+}
+
+// Writes what the field with number j adds to the value of a name: what stands between two values, and its own.
+fn put_added(
+    head: &[u8],
+    places: &[u64],
+    j: usize,
+    name: &[u8],
+    between: &[u8],
+    out: &mut [u8],
+    at: usize,
+) -> Put
+    requires { ⌜ (4 * j + 3 < length (now places)) × Inside (now head) (now places) j × (at ≤ length (now out)) ⌝ }
+    ensures { λ r. ⌜ PutDone (now (out .entry)) at (addedAt (now (head .entry)) (now (places .entry)) (map lowerOf (now (name .entry))) (now (between .entry)) j) (now (out .exit)) r ⌝ }
+{
+    if !has_name(head, places, j, name) {
+        return Put::At(at);
+    }
+    let p = put_piece(out, at, between);
     let Put::At(n) = p else {
         return Put::Full;
     };
     let value = field_value(head, places, j);
     put_piece(out, n, value)
-}
-
-// Writes what the field with number j adds to the value of a name.
-fn put_added(head: &[u8], places: &[u64], j: usize, name: &[u8], out: &mut [u8], at: usize) -> Put
-    requires { ⌜ (4 * j + 3 < length (now places)) × Inside (now head) (now places) j × (at ≤ length (now out)) ⌝ }
-    ensures { λ r. ⌜ PutDone (now (out .entry)) at (addedAt (now (head .entry)) (now (places .entry)) (map lowerOf (now (name .entry))) j) (now (out .exit)) r ⌝ }
-{
-    if has_name(head, places, j, name) {
-        return put_joined(head, places, j, out, at);
-    }
-    Put::At(at)
 }
 
 // Writes what the fields after number k add to its value.
@@ -165,10 +174,11 @@ fn put_later(head: &[u8], places: &[u64], k: usize, n: usize, out: &mut [u8], at
     ensures { λ r. ⌜ PutDone (now (out .entry)) at (addedBy (lowFrom (now (head .entry)) (now (places .entry)) n (k + 1)) (lowName (now (head .entry)) (now (places .entry)) k)) (now (out .exit)) r ⌝ }
 {
     let name = field_name(head, places, k);
+    let between = separator(name);
     let mut p = at;
     let mut j = k + 1;
     while j < n {
-        let r = put_added(head, places, j, name, out, p);
+        let r = put_added(head, places, j, name, &between, out, p);
         let Put::At(m) = r else {
             return Put::Full;
         };

@@ -43,10 +43,11 @@ impl Draft {
 const METHODS: &[&str] = &["GET", "GET", "POST", "HEAD", "get", "M_1", "!#$%&'*+-.^_`|~"];
 #[rustfmt::skip]
 const NAMES: &[&str] = &[
-    "Accept", "ACCEPT", "accept", "X-Job-Id", "x-job-id", "XJobId", "Cookie", "cookie", "Connection", "Keep-Alive", "Proxy", "PROXY",
-    "Authorization", "Proxy-Authorization", "TE", "Upgrade", "Trailer", "Host-", "Contents-Length", "X!#$%&'*+.^`|~9", "A", "a", "AB",
+    "Accept", "ACCEPT", "accept", "X-Job-Id", "x-job-id", "XJobId", "Cookie", "cookie", "COOKIE", "Cookie2", "cookie2", "Set-Cookie",
+    "Connection", "Keep-Alive", "Proxy", "PROXY", "Authorization", "Proxy-Authorization", "TE", "Upgrade", "Trailer", "Host-",
+    "Contents-Length", "X!#$%&'*+.^`|~9", "A", "a", "AB",
 ];
-const VALUES: &[&str] = &["", "x", "a, b", "\u{e9}\u{ff}", "x\ty", "1", "close", "q=1; r=2", "text/plain", "~ ~", ":", ": ,"];
+const VALUES: &[&str] = &["", "x", "a, b", "\u{e9}\u{ff}", "x\ty", "1", "close", "q=1; r=2", "a;", "; a", "text/plain", "~ ~", ":", ": ,"];
 
 /// A good request to one of the mounts.
 pub fn good(random: &mut Random, mounts: &[Pair]) -> Draft {

@@ -1,5 +1,6 @@
 //! Requests that are near to another one: with the same meaning, or with one that differs in a little thing.
 use super::draft::Draft;
+use crate::meaning::{separator, split, trim};
 use crate::random::Random;
 
 /// A request that differs from the draft in one place or two.
@@ -21,8 +22,7 @@ fn change_fields(random: &mut Random, draft: &mut Draft) {
     }
     let at = random.below(draft.fields.len());
     let field = draft.fields[at].clone();
-    let colon = field.iter().position(|&byte| byte == b':').unwrap_or(0);
-    let (name, value) = (&field[..colon], &field[colon + 1..]);
+    let (name, value) = split(&field, b":");
     match random.below(8) {
         0 => draft.fields[at] = [&name.to_ascii_uppercase(), &b":"[..], value].concat(),
         1 => draft.fields[at] = [name, b": \t", value, b" "].concat(),
@@ -39,11 +39,17 @@ fn change_fields(random: &mut Random, draft: &mut Draft) {
     }
 }
 
-/// Parts a value at its first comma and space into two lines, or joins the next line of the same name to it.
+/// Joins the next line of the same name to a value; where there is none, parts the value at its first separator, or adds a line.
 fn join_or_part(draft: &mut Draft, at: usize, name: &[u8], value: &[u8]) {
-    if let Some(comma) = value.windows(2).position(|two| two == b", ") {
-        draft.fields[at] = [name, b":", &value[..comma]].concat();
-        draft.fields.insert(at + 1, [name, b":", &value[comma + 2..]].concat());
+    let between = separator(&name.to_ascii_lowercase());
+    let next = (at + 1..draft.fields.len()).find(|&later| split(&draft.fields[later], b":").0.eq_ignore_ascii_case(name));
+    if let Some(next) = next {
+        let later = draft.fields.remove(next);
+        draft.fields[at] = [name, b":", trim(value), between, trim(split(&later, b":").1)].concat();
+    } else if value.windows(2).any(|two| two == between) {
+        let (first, second) = split(value, between);
+        draft.fields[at] = [name, b":", first].concat();
+        draft.fields.insert(at + 1, [name, b":", second].concat());
     } else {
         draft.fields.insert(at + 1, [name, b": two"].concat());
     }

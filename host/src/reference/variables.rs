@@ -83,7 +83,8 @@ impl Variables<'_, '_> {
         put_variable(sink, b"SERVER_SOFTWARE", self.lent.server_software);
     }
 
-    /// One variable for each passed field name, ordered by first appearance: the values of all fields with that name, joined.
+    /// One variable for each passed field name, ordered by first appearance: the values of all fields with that name, joined
+    /// with a semicolon and a space for Cookie, and with a comma and a space for any other name.
     fn put_fields(&self, sink: &mut impl Sink) {
         let Fields { list, first } = self.fields;
         for (at, field) in list.iter().enumerate() {
@@ -92,8 +93,9 @@ impl Variables<'_, '_> {
             }
             put_field_name(sink, field.name);
             sink.put(field.value);
+            let separator = if field.is("Cookie") { b"; " } else { b", " };
             for (later, _) in list.iter().zip(first).skip(at + 1).filter(|(_, first)| **first == at) {
-                sink.put(b", ");
+                sink.put(separator);
                 sink.put(later.value);
             }
             sink.put(b"\0");

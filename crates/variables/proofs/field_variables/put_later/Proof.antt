@@ -6,7 +6,7 @@ use Rattle.variables.proofs.Puts.{put-within}
 use Rattle.variables.proofs.field_variables.put_later.Statement.{statement}
 use Rattle.variables.proofs.field_variables.put_later.Tie as tie
 use Rattle.variables.specs.FieldVariables.{lowName, lowFrom, addedAt}
-use Rattle.variables.specs.Fields.{addedBy}
+use Rattle.variables.specs.Fields.{separator, addedBy}
 use Rattle.variables.specs.Put.{PutDone}
 use Rattle.variables.specs.declared.put.Put.the-variants.{At}
 use borrow.Author.Needs.{needs}
@@ -15,37 +15,46 @@ use mathlib.Core.Path.{_≡_, refl}
 use native.Mathlib.Omega.{arith}
 
 abbrev Inv-loop : tie.InvT-loop
-Inv-loop head places k n out₀ at name p₀ j₀ out p j =
+Inv-loop head places k n out₀ at name between p₀ j₀ out p j =
     (k + 1 ≤ j) × (j ≤ n) × (p ≤ length out) × (length out ≡ length out₀)
     × Left out₀ at (addedBy (lowFrom head places n (k + 1)) (lowName head places k)) out p (addedBy (lowFrom head places n j) (lowName head places k))
 
 abbrev μ-loop : tie.MeasureT-loop
-μ-loop head places k n out₀ at name p₀ j₀ out p j = n - j
+μ-loop head places k n out₀ at name between p₀ j₀ out p j = n - j
 
 -- what the field with number j added, where the pattern matched
 added :
     (c : tie.After-known-told Inv-loop μ-loop)
-    → (let l = c .before .before .before .before .before .before .before .before in
-    let a = c .before .before .before .before .before .before .before .before .before .before .before .before .before .args in
-    PutDone (l .loop .out) (l .loop .p) (addedAt (a .head .now) (a .places .now) (lowName (a .head .now) (a .places .now) (a .k)) (l .loop .j)) (c .before .before .before .before .before .put-added .last .1 .1 .1 .1 .0) (At (c .before .r .given .0 .0)))
-added c = rw (c .before .r .given .1, c .before .before .before .before .before .before .before .before .before .field-name .ensures .0) at (c .before .before .before .before .before .put-added .ensures)
+    → (let l = c .before .before .before .before .before .before .before .before .before in
+    let a = l .before .before .before .before .before .before .args in
+    let x = lowName (a .head .now) (a .places .now) (a .k) in
+    PutDone (l .loop .out) (l .loop .p) (addedAt (a .head .now) (a .places .now) x (separator x) (l .loop .j)) (c .before .before .before .before .before .put-added .last .1 .1 .1 .1 .1 .0) (At (c .before .r .given .0 .0)))
+added c =
+    let s = c .before .before .before .before .before .before .before .before .before .before in
+    rw (c .before .r .given .1, s .separator .ensures, s .before .field-name .ensures .0) at (c .before .before .before .before .before .put-added .ensures)
 
 field-name-requires : tie.Need-field-name-requires Inv-loop μ-loop
 field-name-requires c κs =
     let s = c .before .before .before in
     (omega (arith, s .pre .0, s .pre .1), s .pre .2 _ (s .pre .0))
 
+separator-requires : tie.Need-separator-requires Inv-loop μ-loop
+separator-requires c κs = search needs
+
 add-j : tie.Need-add-j Inv-loop μ-loop
 add-j c = search needs
 
 loop-holds : tie.Need-loop-holds Inv-loop μ-loop
-loop-holds c = (search needs, search needs, c .before .before .before .before .pre .3, refl, left-all _ _ _ _ refl)
+loop-holds c = (search needs, search needs, c .before .before .before .before .before .pre .3, refl, left-all _ _ _ _ refl)
+
+slice-aggregate-put-added : tie.Need-slice-aggregate-put-added Inv-loop μ-loop
+slice-aggregate-put-added c = search needs
 
 put-added-requires : tie.Need-put-added-requires Inv-loop μ-loop
 put-added-requires c κs =
-    let s = c .before .before .before .before .before .before .before in
-    let l = c .before .before in
-    (omega (arith, s .pre .1), s .pre .2 _ (c .before .loop-test .taken), l .loop .inv .2)
+    let l = c .before .before .before in
+    let s = l .before .before .before .before .before .before in
+    (omega (arith, s .pre .1), s .pre .2 _ (c .before .before .loop-test .taken), l .loop .inv .2)
 
 enum-known-r : tie.Need-enum-known-r Inv-loop μ-loop
 enum-known-r c = search needs
@@ -58,8 +67,10 @@ same-length c = search needs
 
 returns : tie.Need-returns Inv-loop μ-loop
 returns c =
-    let l = c .before .before .before .before .before .before .before in
-    left-full (l .loop .inv .4) _ _ (added-next _ _ _ _ _ (c .before .before .before .before .before .before .loop-test .taken)) (rw (c .enum-told .given .1, l .before .field-name .ensures .0) at (c .before .before .before .before .put-added .ensures))
+    let t = c .before .before .before .before .before .before .before in
+    let l = t .before in
+    left-full (l .loop .inv .4) _ _ (added-next _ _ _ _ _ (t .loop-test .taken))
+    (rw (c .enum-told .given .1, l .before .separator .ensures, l .before .before .field-name .ensures .0) at (c .before .before .before .before .put-added .ensures))
 
 add-j-2 : tie.Need-add-j-2 Inv-loop μ-loop
 add-j-2 c = search needs
@@ -69,8 +80,8 @@ loop-less c = omega arith
 
 loop-again : tie.Need-loop-again Inv-loop μ-loop
 loop-again c =
-    let l = c .before .before .before .before .before .before .before .before in
-    (omega arith, omega arith, put-within (added c), search needs, left-more (l .loop .inv .4) (added-next _ _ _ _ _ (c .before .before .before .before .before .before .before .loop-test .taken)) (added c))
+    let t = c .before .before .before .before .before .before .before .before in
+    (omega arith, omega arith, put-within (added c), search needs, left-more (t .before .loop .inv .4) (added-next _ _ _ _ _ (t .loop-test .taken)) (added c))
 
 same-length-2 : tie.Need-same-length-2 Inv-loop μ-loop
 same-length-2 c = search needs
@@ -85,8 +96,10 @@ put-later-spec =
     Inv-loop
     μ-loop
     field-name-requires
+    separator-requires
     add-j
     loop-holds
+    slice-aggregate-put-added
     put-added-requires
     enum-known-r
     enum-told
