@@ -110,6 +110,20 @@ mod gateway {
         every_text(b"A:_ \t\r\n-", 5, &mut |text| check([b"GET /a HTTP/1.0\r\n", text, b"\r\nA: x\r\n\r\n"].concat()));
     }
 
+    /// Two lines of a name around a Cookie: every byte in every place of that name, and texts of a few bytes as its end.
+    #[test]
+    fn names_like_cookie() {
+        let check_name = |name: &[u8]| check([b"GET /a HTTP/1.0\r\n", name, b": x\r\nCookie: y\r\n", name, b": z\r\n\r\n"].concat());
+        for at in 0..b"Cookie".len() {
+            for byte in 0..=255 {
+                let mut name = *b"Cookie";
+                name[at] = byte;
+                check_name(&name);
+            }
+        }
+        every_text(b"iIeE2-", 4, &mut |text| check_name(&[b"Cook", text].concat()));
+    }
+
     #[test]
     fn content_lengths() {
         every_text(b"01, x", 5, &mut |text| check([b"GET /a HTTP/1.0\r\nContent-Length:", text, b"\r\n\r\nxx"].concat()));

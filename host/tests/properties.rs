@@ -190,7 +190,7 @@ mod gateway {
         }
     }
 
-    /// How many lines begin with a Cookie field.
+    /// How many Cookie lines a request has.
     fn cookies(request: &[u8]) -> usize {
         request.split(|&byte| byte == b'\n').filter(|line| line.to_ascii_lowercase().starts_with(b"cookie:")).count()
     }

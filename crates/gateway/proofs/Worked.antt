@@ -1,10 +1,11 @@
 -- The cases that 01 marks W, computed; 01's whole output, and further cases.
 -- Assumes nothing.
 use Prim.Native.Nat.{ℕ}
+use Prim.Native.String.{String}
 use mathlib.Core.Path.{_≡_, refl}
 use mathlib.Core.List.{List, [], _∷_, map}
-use Rattle.octets.specs.Text.{barred}
-use Rattle.octets.specs.Outcome.{refused, gives}
+use Rattle.octets.specs.Text.{bytes, barred}
+use Rattle.octets.specs.Outcome.{Outcome, refused, gives, then}
 use Rattle.octets.specs.Kinds.{isDigit, isLetter, isHex, isToken, isName, isTarget, isValue, isBlank}
 use Rattle.octets.specs.Scan.{run, allOf, count}
 use Rattle.octets.specs.Trim.{kept}
@@ -22,7 +23,7 @@ use Rattle.http.specs.Lines.{linesFrom}
 use Rattle.http.specs.RequestLine.{isMethod, isVersion, versionOf, requestLineOf}
 use Rattle.targets.specs.Escape.{escapesRight, hexValue, decodedFrom}
 use Rattle.targets.specs.Target.{pathOf, queryOf, rawRight, noDots, segmentsRight, decodedRight, targetOf}
-use Rattle.http.specs.Fields.{fieldOf, eachField}
+use Rattle.http.specs.Fields.{Field, fieldOf, eachField}
 use Rattle.lent.specs.Settings.{settingsOf}
 use Rattle.lent.specs.Mounts.{placed, begins, mountOf}
 use Rattle.lent.specs.Lent.{ends, allMounts, lentOf}
@@ -30,8 +31,8 @@ use Rattle.variables.specs.Fields.{passed, separator, addedBy, grouped}
 use Rattle.request.specs.Named.{valuesOf}
 use Rattle.variables.specs.Variables.{fixed}
 use Rattle.request.specs.Request.{hostRight, contentOf, rulesOf, requestOf}
-use Rattle.gateway.specs.Step.{bodyOf, writtenFor, forwardOf, stepWith}
-use Rattle.gateway.specs.Worked.{step, forward, answerTo, Case, cases}
+use Rattle.gateway.specs.Step.{bodyOf, meaningAt, writtenFor, forwardOf, stepWith}
+use Rattle.gateway.specs.Worked.{headText, step, forward, answerTo, Case, cases}
 use Rattle.gateway.specs.Claims.{WorkedCases}
 
 pub worked-cases : WorkedCases
@@ -104,3 +105,14 @@ further =
 pub further-right : map (λ c. answerTo (c .asked)) further ≡ map (λ c. c .answer) further
 unfolding further sameBytes isIn numberFrom digitsIn isDigit printed parted paired different stepWith lentOf settingsOf allMounts placed begins ends mountOf valueIn forwardOf writtenFor headOf endFrom linesFrom requestOf requestLineOf versionOf isMethod isVersion isToken isLetter isHex isTarget isName isValue isBlank run allOf count kept escapesRight hexValue decodedFrom pathOf queryOf rawRight noDots segmentsRight decodedRight targetOf fieldOf eachField lowerOf upperOf rulesOf hostRight contentOf valuesOf bodyOf fixed passed separator addedBy grouped
 further-right = refl
+
+-- the passed fields that a request with these field lines means
+abbrev pub fieldsMeant : List String → Outcome (List Field)
+fieldsMeant ls = then (meaningAt (headText ("GET /jobs HTTP/1.0" ∷ ls))) (λ m. gives (m .fields))
+
+-- two Cookie fields mean what one with the joined value means, and not what one with a comma means
+pub cookies-mean :
+    map fieldsMeant (("Cookie: a" ∷ "COOKIE: b" ∷ []) ∷ ("Cookie: a; b" ∷ []) ∷ ("Cookie: a, b" ∷ []) ∷ [])
+    ≡ map (λ v. gives (record { name = bytes "cookie"; value = bytes v } ∷ [])) ("a; b" ∷ "a; b" ∷ "a, b" ∷ [])
+unfolding meaningAt sameBytes isIn numberFrom isDigit headOf endFrom linesFrom requestOf requestLineOf versionOf isMethod isVersion isToken isLetter isHex isTarget isName isValue isBlank run allOf count kept escapesRight hexValue decodedFrom pathOf queryOf rawRight noDots segmentsRight decodedRight targetOf fieldOf eachField lowerOf rulesOf hostRight contentOf valuesOf bodyOf passed separator addedBy grouped parted
+cookies-mean = refl

@@ -28,9 +28,13 @@ lowFrom head ps n k = lowered (fieldsAt head ps k (n - k))
 abbrev pub addedAt : List ℕ → List ℕ → List ℕ → List ℕ → ℕ → List ℕ
 addedAt head ps x s j = ifThere (sameBytes (lowName head ps j) x) (s ++ fieldAt head ps j .value)
 
+-- what the fields of n after number k add to its value
+abbrev pub addedAfter : List ℕ → List ℕ → ℕ → ℕ → List ℕ
+addedAfter head ps n k = addedBy (lowFrom head ps n (k + 1)) (lowName head ps k)
+
 -- the value of the field with number k, with what the later ones of n add to it
 abbrev pub valueFrom : List ℕ → List ℕ → ℕ → ℕ → List ℕ
-valueFrom head ps n k = fieldAt head ps k .value ++ addedBy (lowFrom head ps n (k + 1)) (lowName head ps k)
+valueFrom head ps n k = fieldAt head ps k .value ++ addedAfter head ps n k
 
 -- whether the field with number k makes a variable: its name is passed, and stands there for the first time
 abbrev pub makes : List ℕ → List ℕ → ℕ → Bool

@@ -8,10 +8,10 @@ ghost use Rattle.octets.specs.Compare.{lowerOf};
 ghost use Rattle.octets.specs.Lists.{isIn, different};
 ghost use Rattle.headers.specs.Block.{printed};
 ghost use Rattle.http.specs.Fields.{fieldAt, fieldsAt, Inside, AllInside};
-ghost use Rattle.variables.specs.Fields.{notPassed, separator, addedBy, groupedOf};
+ghost use Rattle.variables.specs.Fields.{notPassed, separator, groupedOf};
 ghost use Rattle.variables.specs.Variables.{variableByte, httpName, httpVariable};
 ghost use Rattle.variables.specs.Put.{variable, ifThere, PutDone};
-ghost use Rattle.variables.specs.FieldVariables.{lowName, namesBefore, lowFrom, addedAt, valueFrom, makes, variableFrom};
+ghost use Rattle.variables.specs.FieldVariables.{lowName, namesBefore, addedAt, addedAfter, valueFrom, makes, variableFrom};
 use crate::put::Put;
 use crate::put::put_piece;
 use crate::put::put_value;
@@ -171,7 +171,7 @@ fn put_added(
 // Writes what the fields after number k add to its value.
 fn put_later(head: &[u8], places: &[u64], k: usize, n: usize, out: &mut [u8], at: usize) -> Put
     requires { ⌜ (k < n) × (4 * n ≤ length (now places)) × AllInside (now head) (now places) n × (at ≤ length (now out)) ⌝ }
-    ensures { λ r. ⌜ PutDone (now (out .entry)) at (addedBy (lowFrom (now (head .entry)) (now (places .entry)) n (k + 1)) (lowName (now (head .entry)) (now (places .entry)) k)) (now (out .exit)) r ⌝ }
+    ensures { λ r. ⌜ PutDone (now (out .entry)) at (addedAfter (now (head .entry)) (now (places .entry)) n k) (now (out .exit)) r ⌝ }
 {
     let name = field_name(head, places, k);
     let between = separator(name);

@@ -5,7 +5,7 @@ use Rattle.variables.proofs.FieldVariables.{Left, left-all, left-more, 
 use Rattle.variables.proofs.Puts.{put-within}
 use Rattle.variables.proofs.field_variables.put_later.Statement.{statement}
 use Rattle.variables.proofs.field_variables.put_later.Tie as tie
-use Rattle.variables.specs.FieldVariables.{lowName, lowFrom, addedAt}
+use Rattle.variables.specs.FieldVariables.{lowName, lowFrom, addedAt, addedAfter}
 use Rattle.variables.specs.Fields.{separator, addedBy}
 use Rattle.variables.specs.Put.{PutDone}
 use Rattle.variables.specs.declared.put.Put.the-variants.{At}
@@ -17,7 +17,7 @@ use native.Mathlib.Omega.{arith}
 abbrev Inv-loop : tie.InvT-loop
 Inv-loop head places k n out₀ at name between p₀ j₀ out p j =
     (k + 1 ≤ j) × (j ≤ n) × (p ≤ length out) × (length out ≡ length out₀)
-    × Left out₀ at (addedBy (lowFrom head places n (k + 1)) (lowName head places k)) out p (addedBy (lowFrom head places n j) (lowName head places k))
+    × Left out₀ at (addedAfter head places n k) out p (addedBy (lowFrom head places n j) (lowName head places k))
 
 abbrev μ-loop : tie.MeasureT-loop
 μ-loop head places k n out₀ at name between p₀ j₀ out p j = n - j

@@ -1,11 +1,9 @@
 -- `variables::field_variables::put_values` meets its contract.
 -- Assumes nothing.
-use Prim.Native.Nat.{_+_}
 use Rattle.variables.proofs.Puts.{put-then, put-full, put-within}
 use Rattle.variables.proofs.field_variables.put_values.Statement.{statement}
 use Rattle.variables.proofs.field_variables.put_values.Tie as tie
-use Rattle.variables.specs.FieldVariables.{lowName, lowFrom, valueFrom}
-use Rattle.variables.specs.Fields.{addedBy}
+use Rattle.variables.specs.FieldVariables.{addedAfter, valueFrom}
 use Rattle.variables.specs.Put.{PutDone}
 use Rattle.variables.specs.declared.put.Put.the-variants.{At}
 use Rattle.http.specs.Fields.{fieldAt}
@@ -46,7 +44,7 @@ same-length c = search needs
 returns : tie.Need-returns
 returns c =
     let a = c .before .before .before .before .before .before .before .before .before .before .args in
-    put-full (0 ∷ []) (put-full (addedBy (lowFrom (a .head .now) (a .places .now) (a .n) (a .k + 1)) (lowName (a .head .now) (a .places .now) (a .k))) (rw (c .enum-told .given .1, c .before .before .before .before .before .before .field-value .ensures .0) at (c .before .before .before .before .put-piece .ensures)))
+    put-full (0 ∷ []) (put-full (addedAfter (a .head .now) (a .places .now) (a .n) (a .k)) (rw (c .enum-told .given .1, c .before .before .before .before .before .before .field-value .ensures .0) at (c .before .before .before .before .put-piece .ensures)))
 
 put-later-requires : tie.Need-put-later-requires
 put-later-requires c κs =
