@@ -71,16 +71,16 @@ module _ (read : Reader) (F : Frames read) where
   unfolding spoolIn joined wholeBefore total
   cut-in rs k room zero q h w f = absurd (omega arith)
   cut-in [] k room (suc fuel) none h w f = let z : k ≡ 0 = omega arith in rw z
-  cut-in (r ∷ rs) k room (suc fuel) (one e q) h w f = by-test (leb (length r) k) refl (λ k′ room′ b w′ f′. cut-in rs k′ room′ fuel q b w′ f′)
+  cut-in (r ∷ rs) k room (suc fuel) (one e q) h w f = by-test (leb (length r) k) refl (λ k′ room′ b w′ f′. cut-in rs k′ room′ fuel q b w′ f′) w
     where
       by-test : (t : Bool) → leb (length r) k ≡ t
           → ((k′ room′ : ℕ) → k′ ≤ length (joined rs) → length (wholeBefore k′ rs) ≤ room′ → k′ < fuel → spoolIn read fuel room′ (take k′ (joined rs)) ≡ answer k′ rs)
-          → spoolIn read (suc fuel) room (take k (r ++ joined rs)) ≡ answer k (r ∷ rs)
-      by-test true t ih =
-          let b : length r ≤ k = leb-true (length r) k t in
-          whole-first room fuel k r rs e b (rw t at w) (λ room′ w′. ih (k - length r) room′ (omega (arith, simp length-append at h)) w′ (omega (arith, F .within r (length r) e .0)))
-          ∙ rw t
-      by-test false t ih = inside fuel room k r (joined rs) e (leb-false (length r) k t) ∙ rw t
+          → (let whole-ones = cond t (length r ∷ wholeBefore (k - length r) rs) [] in
+          length whole-ones ≤ room → spoolIn read (suc fuel) room (take k (r ++ joined rs)) ≡ record { lengths = whole-ones; ending = cond (eqb k (total whole-ones)) whole cut })
+      by-test true t ih few =
+          whole-first room fuel k r rs e (leb-true (length r) k t) few
+          (λ room′ w′. ih (k - length r) room′ (omega (arith, leb-true (length r) k t, simp length-append at h)) w′ (omega (arith, leb-true (length r) k t, F .within r (length r) e .0)))
+      by-test false t ih few = inside fuel room k r (joined rs) e (leb-false (length r) k t)
 
   -- equal joined bytes begin with requests of equal length
   same-length : (r s i j : List ℕ) → read r ≡ gives (length r) → read s ≡ gives (length s) → r ++ i ≡ s ++ j → length r ≡ length s

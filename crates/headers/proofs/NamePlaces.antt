@@ -232,6 +232,12 @@ pub differ-next :
 unfolding different
 differ-next b ps k n h = ap different (names-next b ps k n h)
 
+-- .. where it is known whether the name stands again behind its place
+pub differ-told :
+    (b ps : List ℕ) (k n : ℕ) {t : Bool} → k < n → isIn (nameAt b ps k) (namesAt b ps (k + 1) (n - (k + 1))) ≡ t
+    → different (namesAt b ps k (n - k)) ≡ not t && different (namesAt b ps (k + 1) (n - (k + 1)))
+differ-told b ps k n h e = differ-next b ps k n h ∙ ap (λ (u : Bool). not u && different (namesAt b ps (k + 1) (n - (k + 1)))) e
+
 pub differ-end : (b ps : List ℕ) (k n : ℕ) → n ≤ k → different (namesAt b ps k (n - k)) ≡ true
 unfolding different
 differ-end b ps k n h = ap different (names-end b ps k n h)
