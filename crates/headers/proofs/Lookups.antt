@@ -83,6 +83,13 @@ start b name e =
     let p = well b e in
     record { hs = p .hs; rest = p .is; answer = rw (p .is) }
 
+-- of equal names the first counts
+pub place-hit :
+    (name : List ℕ) (i : ℕ) (h : Header) (hs : List Header) → sameBytes (h .name) name ≡ true
+    → placeIn name i (h ∷ hs) ≡ some (record { start = i + length (h .name) + 1; len = length (h .value) })
+unfolding placeIn
+place-hit name i h hs = ap (λ (t : Bool). cond t (some (record { start = i + length (h .name) + 1; len = length (h .value) })) (placeIn name (i + length (h .name) + 1 + length (h .value) + 1) hs))
+
 -- one header: its name ends at n and its value at v
 pub record Turn (b name : List ℕ) (i n v : ℕ) : Type 0 where
   pub hit : sameBytes (take (n - i) (drop i b)) name ≡ true → lookupOf b name ≡ gives (some (record { start = n + 1; len = v - (n + 1) }))
@@ -99,7 +106,7 @@ module _ (b name : List ℕ) (i n v : ℕ) where
       let s : i + (n - i) + 1 ≡ n + 1 = omega arith in
       let e : n + 1 + (v - (n + 1)) + 1 ≡ v + 1 = omega arith in
       record {
-        hit = λ t. a ∙ rw (t, l, m, s);
+        hit = λ t. a ∙ ap gives (place-hit name i (headerIn b i n v) gs t) ∙ rw (l, m, s);
         miss = λ t. record { hs = gs; rest = r; answer = a ∙ rw (t, l, m, s, e) };
       }
 
@@ -129,7 +136,7 @@ fits-in name (h ∷ hs) i p e = by (sameBytes (h .name) name) refl (fits-in name
         (t : Bool) → sameBytes (h .name) name ≡ t → (placeIn name after hs ≡ some p → p .start + p .len ≤ after + length (printed hs))
         → p .start + p .len ≤ i + length (h .name ++ 0 ∷ (h .value ++ 0 ∷ printed hs))
     by true q ih =
-        let e′ : some (record { start = i + length (h .name) + 1; len = length (h .value) }) ≡ some p = simp q at e in
+        let e′ : some (record { start = i + length (h .name) + 1; len = length (h .value) }) ≡ some p = sym (place-hit name i h hs q) ∙ e in
         let s : i + length (h .name) + 1 ≡ p .start = cc in
         let l : length (h .value) ≡ p .len = cc in
         simp length-append (omega arith)

@@ -2,7 +2,7 @@
 -- Assumes nothing.
 use Prim.Native.Nat.{ℕ, _+_, _-_, _*_, _≤_, _<_}
 use Prim.{absurd}
-use mathlib.Core.Path.{_≡_, refl, sym, _∙_}
+use mathlib.Core.Path.{_≡_, refl, sym, ap, _∙_}
 use mathlib.Core.Bool.{true, false}
 use mathlib.Core.List.{List, [], _∷_, _++_}
 use mathlib.Core.Option.{none, some}
@@ -19,6 +19,7 @@ use Rattle.headers.specs.Block.{Header, Proper, printed, headersOf}
 use Rattle.headers.specs.Lookup.{placeIn, lookupOf}
 use Rattle.headers.specs.Names.{namePlaces, NamesIn, nameAt}
 use Rattle.headers.proofs.Blocks.{printed-read, behind-name, behind-printed}
+use Rattle.headers.proofs.Lookups.{place-hit}
 use Rattle.headers.proofs.NamePlaces.{after, start-at, len-at, own-name, within, numbers}
 use Rattle.headers.proofs.Walks.{counted}
 
@@ -93,7 +94,7 @@ module _
             λ s v ev.
             let r : sameBytes (h .name) name ≡ true = rw (own-name h hs b ps t i k l e d) at s in
             let w : v - valueStart ps k ≡ length (h .value) = omega (arith, value-run p) in
-            rw (w, value-start) (a ∙ rw r);
+            rw (w, value-start) (a ∙ ap gives (place-hit name i h hs r));
         miss =
             λ s.
             let r : sameBytes (h .name) name ≡ false = rw (own-name h hs b ps t i k l e d) at s in

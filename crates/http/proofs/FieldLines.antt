@@ -70,7 +70,8 @@ module _ (rule : ℕ → Bool) (line : List ℕ) (n : ℕ) (colon : n ≡ 0 + ru
       whole z a b =
           let e : nameLength line ≡ n = omega arith in
           let y : length (take k (drop v line)) ≡ k = length-take-le k (drop v line) (omega (arith, kept-le (drop v line))) in
-          rw (there z a b, e, value-is, y, ← start)
+          let s : valueStart line ≡ v = ap (λ (m : ℕ). m + 1 + run isBlank (drop (m + 1) line)) e ∙ sym start in
+          rw (there z a b, s, e, value-is, y)
 
 -- "A line that begins with space or tab is refused"
 first-byte : (rule : ℕ → Bool) (b : ℕ) (s : List ℕ) (n : ℕ) → rule b ≡ false → fieldWith rule (b ∷ s) n ≡ none

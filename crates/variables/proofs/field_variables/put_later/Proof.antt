@@ -1,6 +1,6 @@
 -- `variables::field_variables::put_later` meets its contract.
 -- Assumes nothing.
-use Prim.Native.Nat.{_≤_, _-_, _+_}
+use Prim.Native.Nat.{_≤_, _-_}
 use Rattle.variables.proofs.FieldVariables.{Left, left-all, left-more, left-full, left-none, added-next, added-end}
 use Rattle.variables.proofs.Puts.{put-within}
 use Rattle.variables.proofs.field_variables.put_later.Statement.{statement}
@@ -16,7 +16,7 @@ use native.Mathlib.Omega.{arith}
 
 abbrev Inv-loop : tie.InvT-loop
 Inv-loop head places k n out₀ at name between p₀ j₀ out p j =
-    (k + 1 ≤ j) × (j ≤ n) × (p ≤ length out) × (length out ≡ length out₀)
+    (p ≤ length out) × (length out ≡ length out₀)
     × Left out₀ at (addedAfter head places n k) out p (addedBy (lowFrom head places n j) (lowName head places k))
 
 abbrev μ-loop : tie.MeasureT-loop
@@ -45,7 +45,7 @@ add-j : tie.Need-add-j Inv-loop μ-loop
 add-j c = search needs
 
 loop-holds : tie.Need-loop-holds Inv-loop μ-loop
-loop-holds c = (search needs, search needs, c .before .before .before .before .before .pre .3, refl, left-all _ _ _ _ refl)
+loop-holds c = (c .before .before .before .before .before .pre .3, refl, left-all _ _ _ _ refl)
 
 slice-aggregate-put-added : tie.Need-slice-aggregate-put-added Inv-loop μ-loop
 slice-aggregate-put-added c = search needs
@@ -54,7 +54,7 @@ put-added-requires : tie.Need-put-added-requires Inv-loop μ-loop
 put-added-requires c κs =
     let l = c .before .before .before in
     let s = l .before .before .before .before .before .before in
-    (omega (arith, s .pre .1), s .pre .2 _ (c .before .before .loop-test .taken), l .loop .inv .2)
+    (omega (arith, s .pre .1), s .pre .2 _ (c .before .before .loop-test .taken), l .loop .inv .0)
 
 enum-known-r : tie.Need-enum-known-r Inv-loop μ-loop
 enum-known-r c = search needs
@@ -69,7 +69,7 @@ returns : tie.Need-returns Inv-loop μ-loop
 returns c =
     let t = c .before .before .before .before .before .before .before in
     let l = t .before in
-    left-full (l .loop .inv .4) _ _ (added-next _ _ _ _ _ (t .loop-test .taken))
+    left-full (l .loop .inv .2) _ _ (added-next _ _ _ _ _ (t .loop-test .taken))
     (rw (c .enum-told .given .1, l .before .separator .ensures, l .before .before .field-name .ensures .0) at (c .before .before .before .before .put-added .ensures))
 
 add-j-2 : tie.Need-add-j-2 Inv-loop μ-loop
@@ -81,13 +81,13 @@ loop-less c = omega arith
 loop-again : tie.Need-loop-again Inv-loop μ-loop
 loop-again c =
     let t = c .before .before .before .before .before .before .before .before in
-    (omega arith, omega arith, put-within (added c), search needs, left-more (t .before .loop .inv .4) (added-next _ _ _ _ _ (t .loop-test .taken)) (added c))
+    (put-within (added c), search needs, left-more (t .before .loop .inv .2) (added-next _ _ _ _ _ (t .loop-test .taken)) (added c))
 
 same-length-2 : tie.Need-same-length-2 Inv-loop μ-loop
 same-length-2 c = search needs
 
 returns-2 : tie.Need-returns-2 Inv-loop μ-loop
-returns-2 c = left-none (c .before .loop .inv .4) (added-end _ _ _ _ _ (c .loop-test .left)) (c .before .loop .inv .2)
+returns-2 c = left-none (c .before .loop .inv .2) (added-end _ _ _ _ _ (c .loop-test .left)) (c .before .loop .inv .0)
 
 pub put-later-spec : {M : Type 1} → statement M
 put-later-spec =
