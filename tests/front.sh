@@ -14,6 +14,11 @@ raw() {
     [ "$("$front" --raw "$@" <"$dir/in" | tr '\000' '|')" = "$expected" ] || complain "--raw writes other bytes: $*"
 }
 
+# two Cookie fields, as consoles send them
+printf 'GET /jobs HTTP/1.0\r\nCookie: a=1\r\nAccept: x\r\nCookie: b=2\r\n\r\n' >"$dir/in"
+"$front" "${blocks[@]}" <"$dir/in" >"$dir/out" || complain "not status 0 for a request with two Cookie fields"
+grep -qF -- '|HTTP_COOKIE|a=1; b=2|HTTP_ACCEPT|x|,' "$dir/out" || complain "two Cookie fields are joined in another way"
+
 # a request that is accepted
 printf 'GET /jobs/7?x=1 HTTP/1.1\r\nHost: q.example\r\n\r\n' >"$dir/in"
 raw "${blocks[@]}"

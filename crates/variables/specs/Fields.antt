@@ -26,8 +26,8 @@ unfoldable pub passed : List Field → List Field
 passed [] = []
 passed (f ∷ fs) = cond (isIn (f .name) notPassed) (passed fs) (f ∷ passed fs)
 
--- what stands between two values of the name n: 02 §4, "Cookie values are joined with a semicolon and a space;
--- every other field as before", which is "a comma and a space"
+-- what stands between two values of the name n: "joined in order with a comma and a space"; 02 §4: "Cookie values are joined with a
+-- semicolon and a space; every other field as before"
 unfoldable pub separator : List ℕ → List ℕ
 separator n = cond (sameBytes n (bytes "cookie")) (bytes "; ") (bytes ", ")
 

@@ -134,7 +134,7 @@ fn put_http_name(out: &mut [u8], at: usize, name: &[u8]) -> Put
     put_piece(out, m, b"\0")
 }
 
-// What stands between two values of a name.
+// What stands between two values of a name: a worker splits cookies at semicolons, other values at commas.
 fn separator(name: &[u8]) -> [u8; 2]
     ensures { λ r. ⌜ r ≡ separator (map lowerOf (now (name .entry))) ⌝ }
 {
