@@ -214,7 +214,7 @@ mod gateway {
             seen[usize::from(equal)] += 1;
             of_cookies[usize::from(equal)] += usize::from(cookies(&one) != cookies(&two));
         }
-        println!("meanings: {} pairs differ, {} are equal", seen[0], seen[1]);
+        println!("meanings: {} pairs differ, {} are equal; with other numbers of Cookie lines {of_cookies:?}", seen[0], seen[1]);
         assert!(seen.iter().all(|&pairs| pairs > 3_000), "pairs: {seen:?}");
         assert!(of_cookies.iter().all(|&pairs| pairs > 50), "pairs with unequal numbers of Cookie lines: {of_cookies:?}");
     }

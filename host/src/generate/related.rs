@@ -23,18 +23,18 @@ fn change_fields(random: &mut Random, draft: &mut Draft) {
     let at = random.below(draft.fields.len());
     let field = draft.fields[at].clone();
     let (name, value) = split(&field, b":");
-    match random.below(8) {
+    match random.below(10) {
         0 => draft.fields[at] = [&name.to_ascii_uppercase(), &b":"[..], value].concat(),
         1 => draft.fields[at] = [name, b": \t", value, b" "].concat(),
-        2 => join_or_part(draft, at, name, value),
-        3 => {
+        2..=4 => join_or_part(draft, at, name, value),
+        5 => {
             let moved = draft.fields.remove(at);
             let to = random.below(draft.fields.len() + 1);
             draft.fields.insert(to, moved);
         }
-        4 => draft.fields.push(random.pick(&["Authorization: x", "proxy: y", "CONNECTION: close", "Keep-Alive: 5"]).into()),
-        5 => draft.fields[at].push(random.pick(b"x, \t")),
-        6 => draft.fields.push(field.clone()),
+        6 => draft.fields.push(random.pick(&["Authorization: x", "proxy: y", "CONNECTION: close", "Keep-Alive: 5"]).into()),
+        7 => draft.fields[at].push(random.pick(b"x, \t")),
+        8 => draft.fields.push(field.clone()),
         _ => drop(draft.fields.remove(at)),
     }
 }
