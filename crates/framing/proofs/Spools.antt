@@ -78,8 +78,8 @@ module _ (read : Reader) (F : Frames read) where
           → (let whole-ones = cond t (length r ∷ wholeBefore (k - length r) rs) [] in
           length whole-ones ≤ room → spoolIn read (suc fuel) room (take k (r ++ joined rs)) ≡ record { lengths = whole-ones; ending = cond (eqb k (total whole-ones)) whole cut })
       by-test true t ih few =
-          whole-first room fuel k r rs e (leb-true (length r) k t) few
-          (λ room′ w′. ih (k - length r) room′ (omega (arith, leb-true (length r) k t, simp length-append at h)) w′ (omega (arith, leb-true (length r) k t, F .within r (length r) e .0)))
+          let b : length r ≤ k = leb-true (length r) k t in
+          whole-first room fuel k r rs e b few (λ room′ w′. ih (k - length r) room′ (omega (arith, simp length-append at h)) w′ (omega (arith, F .within r (length r) e .0)))
       by-test false t ih few = inside fuel room k r (joined rs) e (leb-false (length r) k t)
 
   -- equal joined bytes begin with requests of equal length

@@ -5,7 +5,7 @@ use Prim.Native.String.{String}
 use mathlib.Core.Path.{_≡_, refl}
 use mathlib.Core.List.{List, [], _∷_, map}
 use Rattle.octets.specs.Text.{bytes, barred}
-use Rattle.octets.specs.Outcome.{Outcome, refused, gives, then}
+use Rattle.octets.specs.Outcome.{refused, gives}
 use Rattle.octets.specs.Kinds.{isDigit, isLetter, isHex, isToken, isName, isTarget, isValue, isBlank}
 use Rattle.octets.specs.Scan.{run, allOf, count}
 use Rattle.octets.specs.Trim.{kept}
@@ -27,12 +27,12 @@ use Rattle.http.specs.Fields.{Field, fieldOf, eachField}
 use Rattle.lent.specs.Settings.{settingsOf}
 use Rattle.lent.specs.Mounts.{placed, begins, mountOf}
 use Rattle.lent.specs.Lent.{ends, allMounts, lentOf}
-use Rattle.variables.specs.Fields.{passed, separator, addedBy, grouped}
+use Rattle.variables.specs.Fields.{passed, separator, addedBy, grouped, groupedOf}
 use Rattle.request.specs.Named.{valuesOf}
 use Rattle.variables.specs.Variables.{fixed}
 use Rattle.request.specs.Request.{hostRight, contentOf, rulesOf, requestOf}
-use Rattle.gateway.specs.Step.{bodyOf, meaningAt, writtenFor, forwardOf, stepWith}
-use Rattle.gateway.specs.Worked.{headText, step, forward, answerTo, Case, cases}
+use Rattle.gateway.specs.Step.{bodyOf, writtenFor, forwardOf, stepWith}
+use Rattle.gateway.specs.Worked.{step, forward, answerTo, Case, cases}
 use Rattle.gateway.specs.Claims.{WorkedCases}
 
 pub worked-cases : WorkedCases
@@ -106,13 +106,13 @@ pub further-right : map (λ c. answerTo (c .asked)) further ≡ map (λ c. c .an
 unfolding further sameBytes isIn numberFrom digitsIn isDigit printed parted paired different stepWith lentOf settingsOf allMounts placed begins ends mountOf valueIn forwardOf writtenFor headOf endFrom linesFrom requestOf requestLineOf versionOf isMethod isVersion isToken isLetter isHex isTarget isName isValue isBlank run allOf count kept escapesRight hexValue decodedFrom pathOf queryOf rawRight noDots segmentsRight decodedRight targetOf fieldOf eachField lowerOf upperOf rulesOf hostRight contentOf valuesOf bodyOf fixed passed separator addedBy grouped
 further-right = refl
 
--- the passed fields that a request with these field lines means
-abbrev pub fieldsMeant : List String → Outcome (List Field)
-fieldsMeant ls = then (meaningAt (headText ("GET /jobs HTTP/1.0" ∷ ls))) (λ m. gives (m .fields))
+-- a field by its name and its value
+abbrev pub field : String → String → Field
+field n v = record { name = bytes n; value = bytes v }
 
--- two Cookie fields mean what one with the joined value means, and not what one with a comma means
+-- the fields of a meaning: two Cookie fields are what one with the joined value is, and not what one with a comma is
 pub cookies-mean :
-    map fieldsMeant (("Cookie: a" ∷ "COOKIE: b" ∷ []) ∷ ("Cookie: a; b" ∷ []) ∷ ("Cookie: a, b" ∷ []) ∷ [])
-    ≡ map (λ v. gives (record { name = bytes "cookie"; value = bytes v } ∷ [])) ("a; b" ∷ "a; b" ∷ "a, b" ∷ [])
-unfolding meaningAt sameBytes isIn numberFrom isDigit headOf endFrom linesFrom requestOf requestLineOf versionOf isMethod isVersion isToken isLetter isHex isTarget isName isValue isBlank run allOf count kept escapesRight hexValue decodedFrom pathOf queryOf rawRight noDots segmentsRight decodedRight targetOf fieldOf eachField lowerOf rulesOf hostRight contentOf valuesOf bodyOf passed separator addedBy grouped parted
+    map groupedOf ((field "Cookie" "a" ∷ field "COOKIE" "b" ∷ []) ∷ (field "Cookie" "a; b" ∷ []) ∷ (field "Cookie" "a, b" ∷ []) ∷ [])
+    ≡ map (λ v. field "cookie" v ∷ []) ("a; b" ∷ "a; b" ∷ "a, b" ∷ [])
+unfolding passed separator addedBy grouped isIn sameBytes lowerOf
 cookies-mean = refl
