@@ -8,11 +8,12 @@ use mathlib.Core.List.{List}
 use mathlib.Core.Option.{Option, some}
 use lib.ListN.{length}
 use Rattle.octets.specs.Outcome.{refused, gives}
-use Rattle.octets.specs.Lists.{All}
+use Rattle.octets.specs.Lists.{All, different}
 use Rattle.headers.specs.Block.{Header, Proper, printed, parsed, wellFormed, countOf, headerEnds, HeaderFound}
 use Rattle.headers.specs.Lookup.{Part, partOption, valueIn, lookupOf}
 use Rattle.headers.specs.Setting.{in-first, in-second, settingOf}
 use Rattle.headers.specs.Names.{NamesFound, NamesIn}
+use Rattle.headers.specs.Sizes.{sizesOf}
 use Rattle.headers.specs.declared.block.Count.{Count}
 
 -- "Looking up a name hands back the value as that part of the caller's block": the bytes at the place that is given are the value of the first
@@ -34,6 +35,12 @@ WellFormedHeaded = (block : List ℕ) → (wellFormed block ≡ true) ↔ Headed
 -- a header takes a byte of name and two NULs at least
 abbrev pub HeadersFew : Type 0
 HeadersFew = (block : List ℕ) (hs : List Header) → parsed block ≡ gives hs → 3 * length hs ≤ length block
+
+-- headers of different names are parts of their block that do not overlap
+abbrev pub ValuesFit : Type 0
+ValuesFit =
+    (block : List ℕ) (hs : List Header) (ns : List (List ℕ)) → parsed block ≡ gives hs → different ns ≡ true
+    → sizesOf ns hs ≤ length block
 
 -- the headers of a block are those of the grammar, "name ::= notnull+, value ::= notnull*"
 abbrev pub HeadersProper : Type 0

@@ -2,4 +2,5 @@ pub mod Block
 pub mod Lookup
 pub mod Setting
 pub mod Names
+pub mod Sizes
 pub mod Claims
