@@ -5,5 +5,6 @@ pub mod BlockSteps
 pub mod SettingSteps
 pub mod CheckSteps
 pub mod Proper
+pub mod Sizes
 pub mod Worked
 pub mod Claims

@@ -72,6 +72,29 @@ pub record ProperLent (l : Lent) : Type 0 where
 abbrev pub LentIsProper : Type 0
 LentIsProper = (facts site mounts : List ℕ) (l : Lent) → lentOf facts site mounts ≡ gives l → ProperLent l
 
+-- how many bytes the variables take that the settings give, with their names and NULs: AUTH_TYPE and REMOTE_USER where they are there
+abbrev pub authSize : Option Auth → ℕ
+authSize none = 0
+authSize (some a) = (11 + length (a .authType)) + (13 + length (a .remoteUser))
+
+-- .. and REMOTE_ADDR, SERVER_NAME, SERVER_PORT and SERVER_SOFTWARE
+abbrev pub settingsSize : Settings → ℕ
+settingsSize s =
+    authSize (s .auth)
+    + (13 + length (s .remoteAddr))
+    + (13 + length (s .serverName))
+    + (13 + length (s .serverPort))
+    + (17 + length (s .serverSoftware))
+
+-- what the settings give takes no more than the two blocks, "two blocks of 1,024": names and values are parts of them that do not overlap
+pub record SettingsWithin (facts site : List ℕ) (s : Settings) : Type 0 where
+  pub size : settingsSize s ≤ length facts + length site
+  pub facts-limit : length facts ≤ 1024
+  pub site-limit : length site ≤ 1024
+
+abbrev pub SettingsFit : Type 0
+SettingsFit = (facts site mounts : List ℕ) (l : Lent) → lentOf facts site mounts ≡ gives l → SettingsWithin facts site (l .settings)
+
 -- "Any breach of this section is 20"
 abbrev pub LentNumber : Type 0
 LentNumber = (facts site mounts : List ℕ) (n : ℕ) → lentOf facts site mounts ≡ refused n → n ≡ 20
