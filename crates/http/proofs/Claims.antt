@@ -8,6 +8,7 @@ use Rattle.http.specs.Claims.{
   FieldsHaveNumbers,
   FieldsObey,
   FieldsTold,
+  HeadHolds,
   FieldsInTurn,
   NumbersHold,
 }
@@ -16,6 +17,7 @@ use Rattle.http.proofs.LineCuts as LineCuts
 use Rattle.http.proofs.Requests as Requests
 use Rattle.http.proofs.FieldLines as FieldLines
 use Rattle.http.proofs.FieldPlaces as FieldPlaces
+use Rattle.http.proofs.Sizes as Sizes
 use Rattle.http.proofs.Numbers as Numbers
 
 pub heads-hold : HeadsHold
@@ -38,6 +40,9 @@ fields-obey = record { clean = FieldLines.fields-clean; few = FieldPlaces.fields
 
 pub fields-told : FieldsTold
 fields-told = record { accepts = FieldPlaces.stored-stand; refuses = FieldPlaces.stored-refused }
+
+pub head-holds : HeadHolds
+head-holds = Sizes.head-holds
 
 pub fields-in-turn : FieldsInTurn
 fields-in-turn = record { next = FieldPlaces.fields-next; end = FieldPlaces.fields-end }

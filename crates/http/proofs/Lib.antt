@@ -6,5 +6,6 @@ pub mod FieldScans
 pub mod Places
 pub mod FieldPlaces
 pub mod Numbers
+pub mod Sizes
 pub mod Claims
 pub mod Worked

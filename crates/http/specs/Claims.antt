@@ -117,6 +117,18 @@ pub record FieldsTold : Type 0 where
       (rule : ℕ → Bool) (head before after : List ℕ) (k : ℕ) → Stored rule head before after (FieldsRefused k)
       → refused k ≡ fieldsOf rule (linesOf head .others)
 
+-- how many bytes field lines take at least, each with its colon and its CR LF
+unfoldable pub fieldsSize : List Field → ℕ
+fieldsSize [] = 0
+fieldsSize (f ∷ fs) = length (f .name) + length (f .value) + 3 + fieldsSize fs
+
+-- a head has its request line and its field lines in it: two spaces, eight bytes of version; a colon and a CR LF for each field
+abbrev pub HeadHolds : Type 0
+HeadHolds =
+    (rule : ℕ → Bool) (head : List ℕ) (f : FirstLine) (fs : List Field) → Reads (linesOf head .first) f
+    → fieldsOf rule (linesOf head .others) ≡ gives fs
+    → (length (f .version) ≡ 8) × (length (f .method) + length (f .target) + 10 + fieldsSize fs ≤ length head)
+
 -- n stored fields, one after the other: the one with number k, and those after it
 pub record FieldsInTurn : Type 0 where
   pub next :
