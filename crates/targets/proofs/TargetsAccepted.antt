@@ -6,7 +6,7 @@ use mathlib.Core.Bool.{Bool, true, false, cond, _&&_}
 use mathlib.Core.List.{List, [], _∷_}
 use native.Mathlib.Omega.{arith}
 use lib.Dec.{eqb}
-use lib.ListN.{length, take, drop, getD}
+use lib.ListN.{length, take, drop, getD, length-drop}
 use borrow.Author.Tests.{eqb-true}
 use Rattle.octets.specs.Outcome.{Outcome, refused, gives, then}
 use Rattle.octets.specs.Kinds.{isDigit, isLetter, isTarget}
@@ -43,8 +43,13 @@ unfolding pathOf run decodedFrom
 decoded-start [] e = e
 decoded-start (b ∷ t) e = rw e
 
+-- the decoded path and the query take no more than the target
+parts-fit : (t : List ℕ) → length (decoded (pathOf t)) + length (queryOf t) ≤ length t
+unfolding queryOf
+parts-fit t = omega (arith, decoded-le 0 (pathOf t), path-length t, run-le (other 63) t, length-drop (run (other 63) t + 1) t)
+
 decoded-path-le : (t : List ℕ) → length (decoded (pathOf t)) ≤ length t
-decoded-path-le t = omega (arith, decoded-le 0 (pathOf t), path-length t, run-le (other 63) t)
+decoded-path-le t = omega (arith, parts-fit t)
 
 -- No NUL, for a writer of names and values that NULs end.
 
@@ -80,7 +85,7 @@ accepted t x e =
       query-is = query;
       path-start = rw path start;
       path-some = rw path (there (decoded (pathOf t)) 0 46 start);
-      path-le = rw path (decoded-path-le t);
+      parts-fit = rw (path, query) (parts-fit t);
       path-slashes = rw path (omega (arith, eqb-true (count 47 p) (count 47 (pathOf t)) (and-left a b ab), raw .slashes));
       path-plain = rw path (and-right a b ab);
       path-segments = rw path (and-right (a && b) g (d .0));

@@ -29,7 +29,7 @@ pub record Accepted (t : List ℕ) (x : Target) : Type 0 where
   pub query-is : x .query ≡ queryOf t
   pub path-start : getD (x .path) 0 0 ≡ 47
   pub path-some : 1 ≤ length (x .path)
-  pub path-le : length (x .path) ≤ length t
+  pub parts-fit : length (x .path) + length (x .query) ≤ length t
   pub path-slashes : count 47 (x .path) ≤ 64
   pub path-plain : allOf isPlain (x .path) ≡ true
   pub path-segments : segmentsRight (x .path) ≡ true
