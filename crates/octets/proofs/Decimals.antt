@@ -267,6 +267,10 @@ pub five-digits : (n : ℕ) → n < 100000 → length (decimal n) ≤ 5
 unfolding tenTo
 five-digits = at-most 4
 
+pub seven-digits : (n : ℕ) → n < 10000000 → length (decimal n) ≤ 7
+unfolding tenTo
+seven-digits = at-most 6
+
 pub ten-digits : (n : ℕ) → n < 10000000000 → length (decimal n) ≤ 10
 unfolding tenTo
 ten-digits = at-most 9
