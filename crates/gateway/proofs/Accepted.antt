@@ -91,7 +91,7 @@ module _ (k : Lent) (sound : ProperLent k) (http : List ℕ) (f : Forward) (l : 
         states = first refl plain (ten-digits (length (meaning .body)) (omega (arith, body-limit)));
         scgi = later here;
         block-limit = written .limit;
-        header-limit = v .few;
+        header-limit = omega (arith, v .few);
         body-limit = body-limit;
       }
 

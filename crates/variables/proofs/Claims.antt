@@ -1,8 +1,10 @@
 -- Each claim of specs/Claims.antt, proved.
 -- Assumes nothing.
-use Rattle.variables.specs.Claims.{MeaningIsProper, VariablesAreHeaders, VariablesSayMeaning, PutsTold}
+use Rattle.variables.specs.Claims.{MeaningIsProper, VariablesAreHeaders, VariablesFew, VariablesTake, VariablesSayMeaning, PutsTold}
 use Rattle.variables.proofs.Variables as Variables
+use Rattle.variables.proofs.Names as Names
 use Rattle.variables.proofs.Meanings as Meanings
+use Rattle.variables.proofs.Sizes as Sizes
 use Rattle.variables.proofs.Puts as Puts
 
 pub meaning-is-proper : MeaningIsProper
@@ -10,6 +12,12 @@ meaning-is-proper = Meanings.meaning-proper
 
 pub variables-are-headers : VariablesAreHeaders
 variables-are-headers = Meanings.variables-stand
+
+pub variables-few : VariablesFew
+variables-few = Names.variable-count
+
+pub variables-take : VariablesTake
+variables-take = Sizes.variables-take
 
 pub variables-say-meaning : VariablesSayMeaning
 variables-say-meaning = Variables.variables-once

@@ -3,6 +3,7 @@ pub mod Variables
 pub mod Names
 pub mod Grouping
 pub mod Meanings
+pub mod Sizes
 pub mod Puts
 pub mod FixedVariables
 pub mod FieldVariables

@@ -1,6 +1,6 @@
 -- What is claimed of the variables of a request.
 -- Assumes nothing.
-use Prim.Native.Nat.{ℕ, _≤_, _<_}
+use Prim.Native.Nat.{ℕ, _+_, _*_, _≤_, _<_}
 use mathlib.Core.Path.{_≡_}
 use mathlib.Core.Bool.{Bool, true, not, _&&_}
 use mathlib.Core.List.{List, _∷_, map}
@@ -11,12 +11,12 @@ use Rattle.octets.specs.Outcome.{gives}
 use Rattle.octets.specs.Kinds.{within, isName}
 use Rattle.octets.specs.Decimal.{decimal}
 use Rattle.octets.specs.Lists.{All, NoNul, different, Different}
-use Rattle.headers.specs.Block.{Header, Proper, names}
+use Rattle.headers.specs.Block.{Header, Proper, names, printed}
 use Rattle.http.specs.Fields.{Field}
 use Rattle.targets.specs.Target.{queryOf}
 use Rattle.lent.specs.Settings.{Settings}
 use Rattle.lent.specs.Mounts.{Route}
-use Rattle.lent.specs.Claims.{ProperSettings}
+use Rattle.lent.specs.Claims.{ProperSettings, settingsSize}
 use Rattle.request.specs.Request.{Request, requestOf}
 use Rattle.variables.specs.Meaning.{Meaning, meaningOf}
 use Rattle.variables.specs.Variables.{variables}
@@ -65,7 +65,7 @@ MeaningIsProper = (head body : List ℕ) (q : Request) → requestOf head ≡ gi
 pub record VariablesStand (s : Settings) (r : Route) (m : Meaning) : Type 0 where
   pub proper : All Proper (variables s r m)
   pub differ : Different (names (variables s r m))
-  pub few : length (variables s r m) ≤ 128
+  pub few : length (variables s r m) ≤ 80
   pub others : List Header
   pub first-two :
       variables s r m
@@ -73,6 +73,20 @@ pub record VariablesStand (s : Settings) (r : Route) (m : Meaning) : Type 0 wher
 
 abbrev pub VariablesAreHeaders : Type 0
 VariablesAreHeaders = (s : Settings) (r : Route) (m : Meaning) → ProperSettings s → ProperRoute r → ProperMeaning m → VariablesStand s r m
+
+-- at most sixteen before those of the fields
+abbrev pub VariablesFew : Type 0
+VariablesFew = (s : Settings) (r : Route) (m : Meaning) → length (variables s r m) ≤ 16 + length (m .fields)
+
+-- how many bytes the variables take at most, by lengths that are at hand before they are written; the names and their NULs, seven digits
+-- and the version are counted in the 138, less the ten bytes of the request line that are no part of a variable; a field's variable takes
+-- four bytes more than its line
+abbrev pub VariablesTake : Type 0
+VariablesTake =
+    (s : Settings) (head body : List ℕ) (q : Request) (r : Route) → requestOf head ≡ gives q
+    → length (r .scriptName) + length (r .pathInfo) ≤ length (q .path) → length body ≤ 1048576
+    → length (printed (variables s r (meaningOf (q .first) (q .fields) body)))
+    ≤ 138 + settingsSize s + length head + length (q .first .target) + 4 * length (q .fields)
 
 -- equal variables and bodies are equal meanings, under equal settings; and equal meanings have equal variables, since these are a function of the
 -- settings, the route and the meaning
