@@ -1,7 +1,8 @@
 -- Each claim of specs/Claims.antt, proved. Crates above cite this file and no other of this folder.
 -- Assumes nothing.
-use Rattle.gateway.specs.Claims.{BytesExactlyMeaning, WrittenIsAccepted, PoolIsValue, PipelinesFrame, PipelinesEqual, PipelineCut, PipelineGoesOn, RoomIsLast, NumbersHold, WorkedCases}
+use Rattle.gateway.specs.Claims.{BytesExactlyMeaning, WrittenIsAccepted, PoolIsValue, VariablesFit, PipelinesFrame, PipelinesEqual, PipelineCut, PipelineGoesOn, RoomIsLast, NumbersHold, WorkedCases}
 use Rattle.gateway.proofs.Exactly as Exactly
+use Rattle.gateway.proofs.Fits as Fits
 use Rattle.gateway.proofs.Pipelines as Pipelines
 use Rattle.gateway.proofs.Links as Links
 use Rattle.gateway.proofs.Numbers as Numbers
@@ -15,6 +16,9 @@ written-is-accepted = Exactly.written-is-accepted
 
 pub pool-is-value : PoolIsValue
 pool-is-value = Exactly.pool-is-value
+
+pub variables-fit : VariablesFit
+variables-fit = Fits.variables-fit
 
 pub pipelines-frame : PipelinesFrame
 pipelines-frame = Pipelines.pipelines-frame

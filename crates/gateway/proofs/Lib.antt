@@ -1,6 +1,7 @@
 pub mod Links
 pub mod Accepted
 pub mod Exactly
+pub mod Fits
 pub mod Pipelines
 pub mod Numbers
 pub mod Worked

@@ -16,7 +16,8 @@ use Rattle.scgi.specs.Claims.{ReadBack}
 use Rattle.targets.specs.Target.{Target, targetOf}
 use Rattle.lent.specs.Mounts.{Mount, mountFor, routeOf}
 use Rattle.lent.specs.Lent.{Lent, lentOf}
-use Rattle.variables.specs.Meaning.{Meaning}
+use Rattle.request.specs.Request.{Request, requestOf}
+use Rattle.variables.specs.Meaning.{Meaning, meaningOf}
 use Rattle.variables.specs.Variables.{variables}
 use Rattle.gateway.specs.Worked.{answerTo, cases}
 use Rattle.gateway.specs.Step.{Forward, meaningAt, forwardOf, stepOf, usedBy}
@@ -62,6 +63,20 @@ pub record PoolStands (mounts : List ℕ) (m : Mount) (f : Forward) : Type 0 whe
 abbrev pub PoolIsValue : Type 0
 PoolIsValue =
     (facts site mounts http rest : List ℕ) (f : Forward) (w : WrittenFor facts site mounts http rest f) → PoolStands mounts (w .mount) f
+
+-- how many bytes headers take, and how many they are
+pub record Small (hs : List Header) : Type 0 where
+  pub bytes : length (printed hs) ≤ 14726
+  pub count : length hs ≤ 80
+
+-- 02 §10: "With the head at 8,192 bytes, the target at 4,096, 64 fields and two blocks of 1,024, the variables cannot reach 16,384 bytes,
+-- nor 128 headers"; a head is given without its CR LF CR LF
+abbrev pub VariablesFit : Type 0
+VariablesFit =
+    (facts site mounts head body : List ℕ) (l : Lent) (q : Request) (m : Mount)
+    → lentOf facts site mounts ≡ gives l → length head ≤ 8188 → requestOf head ≡ gives q → mountFor (l .mounts) (q .path) ≡ gives m
+    → length body ≤ 1048576
+    → Small (variables (l .settings) (routeOf m (q .path)) (meaningOf (q .first) (q .fields) body))
 
 -- HTTP requests end to end frame as spools do, by the bytes used of each: an accepted request keeps its answer when bytes follow, and
 -- gives 1 when it is cut short
