@@ -18,7 +18,8 @@ use Rattle.variables.specs.Meaning.{Meaning, meaningOf}
 use Rattle.variables.specs.Variables.{variables}
 use Rattle.gateway.specs.Claims.{RoomIsLast}
 use Rattle.request.specs.Request.{Request, requestOf}
-use Rattle.gateway.specs.Step.{bytesOf, Body, bodyOf, Forward, writtenFor, forwardOf, stepWith}
+use Rattle.gateway.specs.Body.{Body, bodyOf}
+use Rattle.gateway.specs.Step.{bytesOf, Forward, writtenFor, forwardOf, stepWith}
 
 -- of a body
 pub record BodyLinks (http : List ℕ) (h n : ℕ) (b : Body) : Type 0 where

@@ -21,7 +21,8 @@ use Rattle.variables.specs.Variables.{variables}
 use Rattle.request.specs.Request.{requestOf}
 use Rattle.request.specs.Claims.{requestNumbers}
 use Rattle.request.proofs.Claims as Request
-use Rattle.gateway.specs.Step.{bodyOf, writtenFor, forwardOf, stepWith}
+use Rattle.gateway.specs.Body.{bodyOf}
+use Rattle.gateway.specs.Step.{writtenFor, forwardOf, stepWith}
 use Rattle.gateway.specs.Claims.{stepNumbers, NumbersHold}
 
 head-numbers : (http : List ℕ) → Refuses stepNumbers (headOf http)

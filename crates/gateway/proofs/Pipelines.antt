@@ -18,7 +18,8 @@ use Rattle.http.proofs.Claims.{heads-hold}
 use Rattle.lent.specs.Mounts.{mountFor}
 use Rattle.lent.specs.Lent.{Lent, lentOf}
 use Rattle.request.specs.Request.{requestOf}
-use Rattle.gateway.specs.Step.{Body, bodyOf, Forward, forwardOf, usedBy}
+use Rattle.gateway.specs.Body.{Body, bodyOf}
+use Rattle.gateway.specs.Step.{Forward, forwardOf, usedBy}
 use Rattle.gateway.specs.Claims.{PipelinesFrame, PipelinesEqual, PipelineCut, PipelineGoesOn}
 use Rattle.gateway.proofs.Links.{body-links, links, lent-of}
 

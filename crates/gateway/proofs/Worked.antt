@@ -31,7 +31,8 @@ use Rattle.variables.specs.Fields.{passed, separator, addedBy, grouped, grouped
 use Rattle.request.specs.Named.{valuesOf}
 use Rattle.variables.specs.Variables.{fixed}
 use Rattle.request.specs.Request.{hostRight, contentOf, rulesOf, requestOf}
-use Rattle.gateway.specs.Step.{bodyOf, writtenFor, forwardOf, stepWith}
+use Rattle.gateway.specs.Body.{bodyOf}
+use Rattle.gateway.specs.Step.{writtenFor, forwardOf, stepWith}
 use Rattle.gateway.specs.Worked.{step, forward, answerTo, Case, cases}
 use Rattle.gateway.specs.Claims.{WorkedCases}
 

@@ -1,9 +1,9 @@
 -- The step from an HTTP request to SCGI bytes, in 01's order of refusals.
 -- Assumes nothing.
-use Prim.Native.Nat.{ℕ, _+_, _-_}
+use Prim.Native.Nat.{ℕ, _-_}
 use mathlib.Core.List.{List}
 use lib.Dec.{leb}
-use lib.ListN.{length, take, drop}
+use lib.ListN.{length, take}
 use Rattle.octets.specs.Outcome.{Outcome, gives, then, need}
 use Rattle.headers.specs.Block.{printed}
 use Rattle.scgi.specs.Grammar.{encoded}
@@ -14,22 +14,11 @@ use Rattle.lent.specs.Lent.{Lent, lentOf}
 use Rattle.request.specs.Request.{requestOf}
 use Rattle.variables.specs.Meaning.{Meaning, meaningOf}
 use Rattle.variables.specs.Variables.{variables}
+use Rattle.gateway.specs.Body.{bodyOf}
 
 -- "the block of the variables in their order as netstring, then the body of the meaning"
 abbrev pub bytesOf : Settings → Route → Meaning → List ℕ
 bytesOf s r m = encoded (variables s r m) (m .body)
-
--- a request's body, and how many bytes head and body have: "the bytes used"
-pub record Body : Type 0 where
-  pub body : List ℕ
-  pub used : ℕ
-
--- the body after a head of h bytes, which end in CR LF CR LF: 9, "stated body length above 1,048,576"; "1 for a short body"
-unfoldable pub bodyOf : List ℕ → ℕ → ℕ → Outcome Body
-bodyOf http h n =
-    need (leb n 1048576) 9
-    (need (leb (h + n) (length http)) 1
-    (gives (record { body = take n (drop h http); used = h + n })))
 
 -- the meaning of the request at the front of the HTTP bytes; nothing that is lent takes part in it
 unfoldable pub meaningAt : List ℕ → Outcome Meaning

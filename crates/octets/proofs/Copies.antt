@@ -127,6 +127,10 @@ over-all d p h =
 pub front-is : (d p : List ℕ) {d′ : List ℕ} {r : ℕ} → length p ≤ length d → Wrote d 0 p d′ r → take r d′ ≡ p
 front-is d p h w = rw (w .ends, w .holds) (before d 0 p (omega arith))
 
+-- .. and ends in it
+pub front-inside : (d p : List ℕ) {d′ : List ℕ} {r : ℕ} → length p ≤ length d → Wrote d 0 p d′ r → r ≤ length d′
+front-inside d p h w = omega (arith, w .ends, ap length (w .holds), length-over d 0 p (omega arith))
+
 -- Moving bytes to the front.
 
 behind-front : (d p : List ℕ) (j : ℕ) → length p ≤ j → getD (over d 0 p) j 0 ≡ getD d j 0

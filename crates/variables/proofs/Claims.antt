@@ -1,11 +1,10 @@
 -- Each claim of specs/Claims.antt, proved.
 -- Assumes nothing.
-use Rattle.variables.specs.Claims.{MeaningIsProper, VariablesAreHeaders, VariablesFew, VariablesTake, VariablesSayMeaning, PutsTold}
+use Rattle.variables.specs.Claims.{MeaningIsProper, VariablesAreHeaders, VariablesFew, VariablesTake, VariablesSayMeaning}
 use Rattle.variables.proofs.Variables as Variables
 use Rattle.variables.proofs.Names as Names
 use Rattle.variables.proofs.Meanings as Meanings
 use Rattle.variables.proofs.Sizes as Sizes
-use Rattle.variables.proofs.Puts as Puts
 
 pub meaning-is-proper : MeaningIsProper
 meaning-is-proper = Meanings.meaning-proper
@@ -21,6 +20,3 @@ variables-take = Sizes.variables-take
 
 pub variables-say-meaning : VariablesSayMeaning
 variables-say-meaning = Variables.variables-once
-
-pub puts-told : PutsTold
-puts-told = record { fits = Puts.put-front; full = Puts.put-large }

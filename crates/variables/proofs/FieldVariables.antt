@@ -11,45 +11,22 @@ use lib.Dec.{eqb}
 use lib.ListN.{length, take, drop, getD, set, length-map, drop-of-length-le}
 use Rattle.octets.specs.Compare.{sameBytes, lowerOf, upperOf}
 use Rattle.octets.specs.Lists.{isIn}
-use Rattle.octets.specs.Copy.{over}
+use Rattle.octets.specs.Copy.{over, Wrote}
 use Rattle.octets.proofs.Lists.{next}
 use Rattle.octets.proofs.Compares.{same-true}
 use Rattle.octets.proofs.Names.{in-either}
 use Rattle.octets.proofs.Cases.{upper-lower, lower-eqb}
 use Rattle.octets.proofs.Copies.{first-then, over-nil}
-use Rattle.headers.specs.Block.{Header, printed}
+use Rattle.headers.specs.Block.{printed}
 use Rattle.http.specs.Fields.{Field, fieldAt, fieldsAt}
 use Rattle.http.proofs.Claims.{fields-in-turn}
 use Rattle.request.specs.Named.{lowered}
 use Rattle.variables.specs.Fields.{notPassed, passed, separator, addedBy, joined, grouped, groupedOf}
 use Rattle.variables.specs.Variables.{variableByte, httpVariable}
-use Rattle.variables.specs.Put.{variable, ifThere, PutDone, fits}
-use Rattle.variables.specs.FieldVariables.{lowName, namesBefore, lowFrom, addedAt, makes, variableFrom}
-use Rattle.variables.specs.declared.put.Put.{Put}
-use Rattle.variables.specs.declared.put.Put.the-variants.{At, Full}
-use Rattle.variables.proofs.Puts.{put-then, put-full, put-none}
+use Rattle.variables.specs.Put.{ifThere}
+use Rattle.variables.specs.FieldVariables.{lowName, namesBefore, lowFrom, addedAt, makes, variableFrom, variableIf, fieldsBytes}
+use Rattle.variables.proofs.FixedVariables.{print-one}
 use Rattle.variables.proofs.Grouping.{unlike}
-
--- Bytes of which the front is written.
-
--- where w is to be written over d from at on, and v over out from p on is what is left of it
-abbrev pub Left : List ℕ → ℕ → List ℕ → List ℕ → ℕ → List ℕ → Type 0
-Left d at w out p v = (d′ : List ℕ) (r : Put) → PutDone out p v d′ r → PutDone d at w d′ r
-
-pub left-all : (d : List ℕ) (at : ℕ) (w v : List ℕ) → w ≡ v → Left d at w d at v
-left-all d at w v e d′ r h = rw e h
-
-module _ {d : List ℕ} {at : ℕ} {w out : List ℕ} {p : ℕ} {v : List ℕ} (l : Left d at w out p v) where
-  -- u is written, and v′ is left
-  pub left-more : {u v′ out′ : List ℕ} {m : ℕ} → v ≡ u ++ v′ → PutDone out p u out′ (At m) → Left d at w out′ m v′
-  left-more e h d′ r q = l d′ r (rw e (put-then h q))
-
-  pub left-full : (u v′ : List ℕ) {out′ : List ℕ} → v ≡ u ++ v′ → PutDone out p u out′ Full → PutDone d at w out′ Full
-  left-full u v′ {out′} e h = l out′ Full (rw e (put-full v′ h))
-
-  -- nothing is left
-  pub left-none : v ≡ [] → p ≤ length out → PutDone d at w out (At p)
-  left-none e h = l out (At p) (rw e (put-none out p h))
 
 -- A field's name as its variable has it.
 
@@ -71,17 +48,16 @@ name-next out name at i b h room e =
     ∙ ap (λ (k : ℕ). over (set out (at + i) (variableByte (lowerOf (getD name i 0)))) k (inName (drop (i + 1) name))) z))
 
 pub name-done :
-    (d out name : List ℕ) (at i : ℕ) → i ≡ length name → at + length name ≤ length d
-    → over out (at + i) (inName (drop i name)) ≡ over d at (inName name) → PutDone d at (inName name) out (At (at + i))
-name-done d out name at i e room h =
+    (d out name : List ℕ) (at i : ℕ) → i ≡ length name
+    → over out (at + i) (inName (drop i name)) ≡ over d at (inName name) → Wrote d at (inName name) out (at + i)
+name-done d out name at i e h =
     let l : length (inName name) ≡ length name = simp length-map in
     let passed-all : length name ≤ i = omega arith in
     let none-left : drop i name ≡ [] = drop-of-length-le name passed-all in
-    fits {n = at + i} (omega arith)
-    (record {
+    record {
       ends = omega arith;
       holds = sym (over-nil out (at + i)) ∙ ap (λ (s : List ℕ). over out (at + i) (inName s)) (sym none-left) ∙ h;
-    })
+    }
 
 -- Names that are not passed.
 
@@ -197,14 +173,10 @@ group-one f fs seen = by (isIn (f .name) notPassed) (isIn (f .name) seen) refl
 
 -- The variables from a field on.
 
-print-one : (h : Header) (hs : List Header) → printed (h ∷ hs) ≡ variable (h .name) (h .value) ++ printed hs
-unfolding printed
-print-one h hs = simp append-assoc
-
 abbrev pub variablesFrom : List ℕ → List ℕ → ℕ → ℕ → List ℕ
 variablesFrom head ps n k = printed (map httpVariable (grouped (namesBefore head ps k) (passed (lowFrom head ps n k))))
 
-pub variables-start : (head ps : List ℕ) (n : ℕ) → printed (map httpVariable (groupedOf (fieldsAt head ps 0 n))) ≡ variablesFrom head ps n 0
+pub variables-start : (head ps : List ℕ) (n : ℕ) → fieldsBytes head ps n ≡ variablesFrom head ps n 0
 unfolding namesBefore
 variables-start head ps n = ap (λ (m : ℕ). printed (map httpVariable (groupedOf (fieldsAt head ps 0 m)))) (sym (sub-zero n))
 
@@ -219,7 +191,7 @@ names-more head ps k = ap (namesBefore head ps) (add-one k)
 
 pub variables-next :
     (head ps : List ℕ) (n k : ℕ) → k < n
-    → variablesFrom head ps n k ≡ ifThere (makes head ps k) (variableFrom head ps n k) ++ variablesFrom head ps n (k + 1)
+    → variablesFrom head ps n k ≡ variableIf head ps n k ++ variablesFrom head ps n (k + 1)
 variables-next head ps n k h =
     ap (λ (fs : List Field). printed (map httpVariable (grouped (namesBefore head ps k) (passed (lowered fs))))) (fields-in-turn .next head ps n k h)
     ∙ ap (λ (fs : List Field). printed (map httpVariable fs)) (group-one f later (namesBefore head ps k))

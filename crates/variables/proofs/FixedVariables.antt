@@ -1,134 +1,125 @@
--- The four parts in which the variables before the fields are written are those variables, in their order.
+-- The variables before the fields, row by row.
 -- Assumes nothing.
-use Prim.Native.Nat.{ℕ}
+use Prim.Native.Nat.{ℕ, _+_, _-_, _≤_}
+use Prim.{absurd}
 use mathlib.Core.Path.{_≡_, refl, sym, ap, _∙_}
 use mathlib.Core.Bool.{Bool, true, false}
 use mathlib.Core.List.{List, [], _∷_, _++_, append-assoc}
 use mathlib.Core.Option.{Option, none, some}
-use lib.ListN.{length}
+use native.Mathlib.Omega.{arith}
+use lib.ListN.{length, take, drop, length-take, length-drop, drop-of-length-le}
+use lib.Seq.{length-take-le, take-add, take-take, drop-at, drop-drop}
 use Rattle.octets.specs.Text.{bytes}
 use Rattle.octets.specs.Decimal.{decimal}
-use Rattle.targets.specs.Target.{queryOf}
+use Rattle.octets.specs.Copy.{Wrote}
 use Rattle.headers.specs.Block.{Header, printed}
-use Rattle.lent.specs.Settings.{Auth, Settings}
-use Rattle.lent.specs.Mounts.{Route}
-use Rattle.variables.specs.Meaning.{Meaning}
-use Rattle.variables.specs.Variables.{always, ifPresent, present, authTypeOf, remoteUserOf, fixed}
-use Rattle.variables.specs.Put.{variable}
-use Rattle.variables.specs.FixedBytes.{contentBytes, pathBytes, requestBytes, serverBytes}
-
--- whether a value is there, and the value, empty where it is not
-abbrev pub isThere : {A : Type 0} → Option A → Bool
-isThere none = false
-isThere (some a) = true
-
-abbrev pub orEmpty : Option (List ℕ) → List ℕ
-orEmpty none = []
-orEmpty (some v) = v
+use Rattle.targets.specs.Target.{queryOf}
+use Rattle.lent.specs.Places.{authAt, isGiven, authTypeAt, remoteUserAt}
+use Rattle.lent.specs.declared.places.AuthPlaces.{AuthPlaces}
+use Rattle.lent.specs.declared.places.AuthPlaces.the-variants.{Given, Absent}
+use Rattle.request.specs.RequestRead.{partIf}
+use Rattle.variables.specs.Variables.{always, ifPresent, Rows, present, authTypeOf, remoteUserOf}
+use Rattle.variables.specs.Put.{variable, ifThere}
+use Rattle.variables.proofs.Puts.{Left, left-all, left-room, left-more, left-last}
 
 pub printed-append : (a b : List Header) → printed (a ++ b) ≡ printed a ++ printed b
 unfolding printed
 printed-append [] b = refl
 printed-append (h ∷ a) b = rw (printed-append a b) (simp append-assoc)
 
--- Each part, by the rows that may be absent.
+-- a variable, and those after it
+pub print-one : (h : Header) (hs : List Header) → printed (h ∷ hs) ≡ variable (h .name) (h .value) ++ printed hs
+unfolding printed
+print-one h hs = simp append-assoc
 
-content : (size : List ℕ) (a : Option Auth) (t : Option (List ℕ)) → List Header
-content size a t =
-    present (always "CONTENT_LENGTH" size ∷ always "SCGI" (bytes "1") ∷ ifPresent "AUTH_TYPE" (authTypeOf a) ∷ ifPresent "CONTENT_TYPE" t ∷ [])
+pub print-last : (h : Header) → printed (h ∷ []) ≡ variable (h .name) (h .value)
+unfolding printed
+print-last h = sym (append-assoc (h .name) (0 ∷ []) (h .value ++ 0 ∷ []))
 
-path-rows : (path query addr : List ℕ) → List Header
-path-rows path query addr =
-    present (always "GATEWAY_INTERFACE" (bytes "CGI/1.1") ∷ always "PATH_INFO" path ∷ always "QUERY_STRING" query ∷ always "REMOTE_ADDR" addr ∷ [])
+-- w is to be written over d from at on; the variables hs, which are left of it, over out from p on
+pub record RowsLeft (d : List ℕ) (at : ℕ) (w out : List ℕ) (p : ℕ) (hs : List Header) : Type 0 where
+  pub bytes-left : Left d at w out p (printed hs)
 
-request : (a : Option Auth) (method target : List ℕ) → List Header
-request a method target = present (ifPresent "REMOTE_USER" (remoteUserOf a) ∷ always "REQUEST_METHOD" method ∷ always "REQUEST_URI" target ∷ [])
+pub rows-all : {d : List ℕ} {at : ℕ} (hs : List Header) → at + length (printed hs) ≤ length d → RowsLeft d at (printed hs) d at hs
+rows-all hs room = record { bytes-left = left-all room }
 
-server : (script name port version software : List ℕ) → List Header
-server script name port version software =
-    present (always "SCRIPT_NAME" script ∷ always "SERVER_NAME" name ∷ always "SERVER_PORT" port ∷ always "SERVER_PROTOCOL" version ∷ always "SERVER_SOFTWARE" software ∷ [])
+-- the first of the variables that are left
+module _ {d : List ℕ} {at : ℕ} {w out : List ℕ} {p : ℕ} {h : Header} where
+  pub row-room : {hs : List Header} → RowsLeft d at w out p (h ∷ hs) → p + length (variable (h .name) (h .value)) ≤ length out
+  row-room {hs} l = left-room (variable (h .name) (h .value)) (printed hs) (print-one h hs) (l .bytes-left)
 
-content-bytes : (size : List ℕ) (a : Option Auth) (t : Option (List ℕ)) → printed (content size a t) ≡ contentBytes size (isThere a) (orEmpty (authTypeOf a)) (isThere t) (orEmpty t)
-unfolding printed content
-content-bytes size none none = simp append-assoc
-content-bytes size none (some t) = simp append-assoc
-content-bytes size (some a) none = simp append-assoc
-content-bytes size (some a) (some t) = simp append-assoc
+  pub row-more :
+      {hs : List Header} {out′ : List ℕ} {m : ℕ} → RowsLeft d at w out p (h ∷ hs) → Wrote out p (variable (h .name) (h .value)) out′ m
+      → RowsLeft d at w out′ m hs
+  row-more {hs} l x = record { bytes-left = left-more (printed hs) (print-one h hs) (l .bytes-left) x }
 
-path-bytes : (path query addr : List ℕ) → printed (path-rows path query addr) ≡ pathBytes path query addr
-unfolding printed path-rows
-path-bytes path query addr = simp append-assoc
+  pub row-last : {out′ : List ℕ} {m : ℕ} → RowsLeft d at w out p (h ∷ []) → Wrote out p (variable (h .name) (h .value)) out′ m → Wrote d at w out′ m
+  row-last l x = left-last (l .bytes-left) (rw (print-last h) x)
 
--- a row before what follows it
-row : (n v w : List ℕ) → variable n v ++ w ≡ n ++ 0 ∷ (v ++ 0 ∷ w)
-row n v w = simp append-assoc
-
-last-row : (n v : List ℕ) → variable n v ≡ n ++ 0 ∷ (v ++ 0 ∷ [])
-last-row n v = append-assoc n (0 ∷ []) (v ++ 0 ∷ [])
-
-request-bytes : (a : Option Auth) (method target : List ℕ) → printed (request a method target) ≡ requestBytes (isThere a) (orEmpty (remoteUserOf a)) method target
-unfolding printed request
-request-bytes none method target = simp append-assoc
-request-bytes (some a) method target =
-    sym
-    (row (bytes "REMOTE_USER") (a .remoteUser) (variable (bytes "REQUEST_METHOD") method ++ variable (bytes "REQUEST_URI") target)
-    ∙ ap (λ (w : List ℕ). bytes "REMOTE_USER" ++ 0 ∷ (a .remoteUser ++ 0 ∷ w)) (row (bytes "REQUEST_METHOD") method (variable (bytes "REQUEST_URI") target))
-    ∙ ap (λ (w : List ℕ). bytes "REMOTE_USER" ++ 0 ∷ (a .remoteUser ++ 0 ∷ (bytes "REQUEST_METHOD" ++ 0 ∷ (method ++ 0 ∷ w)))) (last-row (bytes "REQUEST_URI") target))
-
-server-bytes : (script name port version software : List ℕ) → printed (server script name port version software) ≡ serverBytes script name port version software
-unfolding printed server
-server-bytes script name port version software = simp append-assoc
-
--- the four parts are the rows
-parted-rows :
-    (s : Settings) (r : Route) (m : Meaning)
-    → fixed s r m
-    ≡ content (decimal (length (m .body))) (s .auth) (m .contentType)
-    ++ (path-rows (r .pathInfo) (queryOf (m .target)) (s .remoteAddr)
-    ++ (request (s .auth) (m .method) (m .target) ++ server (r .scriptName) (s .serverName) (s .serverPort) (m .version) (s .serverSoftware)))
-unfolding fixed content path-rows request server
-parted-rows s r m = by (s .auth) (m .contentType)
+-- groups of rows
+pub rows-append : (a b : Rows) → printed (present (a ++ b)) ≡ printed (present a) ++ printed (present b)
+rows-append a b = ap printed (present-append a b) ∙ printed-append (present a) (present b)
   where
-    by :
-        (a : Option Auth) (t : Option (List ℕ))
-        → present (
-        always "CONTENT_LENGTH" (decimal (length (m .body)))
-        ∷ always "SCGI" (bytes "1")
-        ∷ ifPresent "AUTH_TYPE" (authTypeOf a)
-        ∷ ifPresent "CONTENT_TYPE" t
-        ∷ always "GATEWAY_INTERFACE" (bytes "CGI/1.1")
-        ∷ always "PATH_INFO" (r .pathInfo)
-        ∷ always "QUERY_STRING" (queryOf (m .target))
-        ∷ always "REMOTE_ADDR" (s .remoteAddr)
-        ∷ ifPresent "REMOTE_USER" (remoteUserOf a)
-        ∷ always "REQUEST_METHOD" (m .method)
-        ∷ always "REQUEST_URI" (m .target)
-        ∷ always "SCRIPT_NAME" (r .scriptName)
-        ∷ always "SERVER_NAME" (s .serverName)
-        ∷ always "SERVER_PORT" (s .serverPort)
-        ∷ always "SERVER_PROTOCOL" (m .version)
-        ∷ always "SERVER_SOFTWARE" (s .serverSoftware)
-        ∷ [])
-        ≡ content (decimal (length (m .body))) a t
-        ++ (path-rows (r .pathInfo) (queryOf (m .target)) (s .remoteAddr)
-        ++ (request a (m .method) (m .target) ++ server (r .scriptName) (s .serverName) (s .serverPort) (m .version) (s .serverSoftware)))
-    by none none = refl
-    by none (some t) = refl
-    by (some a) none = refl
-    by (some a) (some t) = refl
+    present-append : (a b : Rows) → present (a ++ b) ≡ present a ++ present b
+    present-append [] b = refl
+    present-append (none ∷ a) b = present-append a b
+    present-append (some h ∷ a) b = ap (λ (hs : List Header). h ∷ hs) (present-append a b)
 
-pub fixed-bytes :
-    (s : Settings) (r : Route) (m : Meaning)
-    → printed (fixed s r m)
-    ≡ contentBytes (decimal (length (m .body))) (isThere (s .auth)) (orEmpty (authTypeOf (s .auth))) (isThere (m .contentType)) (orEmpty (m .contentType))
-    ++ (pathBytes (r .pathInfo) (queryOf (m .target)) (s .remoteAddr)
-    ++ (requestBytes (isThere (s .auth)) (orEmpty (remoteUserOf (s .auth))) (m .method) (m .target)
-    ++ serverBytes (r .scriptName) (s .serverName) (s .serverPort) (m .version) (s .serverSoftware)))
-fixed-bytes s r m =
-    let c : List Header = content (decimal (length (m .body))) (s .auth) (m .contentType) in
-    let p : List Header = path-rows (r .pathInfo) (queryOf (m .target)) (s .remoteAddr) in
-    let q : List Header = request (s .auth) (m .method) (m .target) in
-    let v : List Header = server (r .scriptName) (s .serverName) (s .serverPort) (m .version) (s .serverSoftware) in
-    ap printed (parted-rows s r m)
-    ∙ printed-append c (p ++ (q ++ v))
-    ∙ rw (printed-append p (q ++ v), printed-append q v, content-bytes (decimal (length (m .body))) (s .auth) (m .contentType), path-bytes (r .pathInfo) (queryOf (m .target)) (s .remoteAddr), request-bytes (s .auth) (m .method) (m .target), server-bytes (r .scriptName) (s .serverName) (s .serverPort) (m .version) (s .serverSoftware))
+-- CONTENT_LENGTH and SCGI, in three pieces
+abbrev pub behindDigits : Rows → List ℕ
+behindDigits rows = (0 ∷ (bytes "SCGI" ++ 0 ∷ (bytes "1" ++ 0 ∷ []))) ++ printed (present rows)
+
+pub content-start :
+    (size : ℕ) (rows : Rows)
+    → printed (present (always "CONTENT_LENGTH" (decimal size) ∷ always "SCGI" (bytes "1") ∷ rows))
+    ≡ (bytes "CONTENT_LENGTH" ++ 0 ∷ []) ++ (decimal size ++ behindDigits rows)
+unfolding printed
+content-start size rows = refl
+
+-- Rows that may be none.
+
+pub auth-type-row :
+    (facts : List ℕ) (a : AuthPlaces) (rows : Rows)
+    → printed (present (ifPresent "AUTH_TYPE" (authTypeOf (authAt facts a)) ∷ rows))
+    ≡ ifThere (isGiven a) (variable (bytes "AUTH_TYPE") (authTypeAt facts a)) ++ printed (present rows)
+auth-type-row facts (Given t u) rows = print-one _ _
+auth-type-row facts Absent rows = refl
+
+pub remote-user-row :
+    (facts : List ℕ) (a : AuthPlaces) (rows : Rows)
+    → printed (present (ifPresent "REMOTE_USER" (remoteUserOf (authAt facts a)) ∷ rows))
+    ≡ ifThere (isGiven a) (variable (bytes "REMOTE_USER") (remoteUserAt facts a)) ++ printed (present rows)
+remote-user-row facts (Given t u) rows = print-one _ _
+remote-user-row facts Absent rows = refl
+
+pub content-type-row :
+    (t : Bool) (head : List ℕ) (start len : ℕ)
+    → printed (present (ifPresent "CONTENT_TYPE" (partIf t head start len) ∷ []))
+    ≡ ifThere t (variable (bytes "CONTENT_TYPE") (take len (drop start head)))
+unfolding printed
+content-type-row true head start len = print-last (record { name = bytes "CONTENT_TYPE"; value = take len (drop start head) })
+content-type-row false head start len = refl
+
+-- what `&s[k..n]` holds is the rest of `&s[..n]`
+pub rest-take : (s : List ℕ) (k n : ℕ) → k ≤ n → n ≤ length s → take (n - k) (drop k s) ≡ drop k (take n s)
+rest-take s k n h l =
+    let e : n ≡ k + (n - k) = omega arith in
+    sym (ap (λ (m : ℕ). drop k (take m s)) e ∙ ap (drop k) (take-add k (n - k) s) ∙ drop-at (take k s) (take (n - k) (drop k s)) k (length-take-le k s (omega arith)))
+
+-- The query, whose start is told by the path's length p in a target of n bytes at t.
+
+module _ (s : List ℕ) (t n p : ℕ) (inside : t + n ≤ length s) (h : p ≤ n) (e : queryOf (take n (drop t s)) ≡ drop (p + 1) (take n (drop t s))) where
+  -- no byte is left for it
+  pub query-none : t + p ≡ t + n → (w : List ℕ) → length w ≡ 0 → w ≡ queryOf (take n (drop t s))
+  query-none q [] z =
+      let l : length (take n (drop t s)) ≤ p + 1 = omega (arith, length-take n (drop t s)) in
+      sym (e ∙ drop-of-length-le (take n (drop t s)) l)
+  query-none q (b ∷ w) z = absurd (omega arith)
+
+  pub query-some : (t + p ≡ t + n → ⊥) → take (t + n - (t + p + 1)) (drop (t + p + 1) s) ≡ queryOf (take n (drop t s))
+  query-some q =
+      let z : p + 1 ≤ n = omega arith in
+      let y : n - (p + 1) ≡ t + n - (t + p + 1) = omega arith in
+      let x : t + (p + 1) ≡ t + p + 1 = omega arith in
+      let l : n ≤ length (drop t s) = omega (arith, length-drop t s) in
+      sym (e ∙ sym (rest-take (drop t s) (p + 1) n z l) ∙ rw (drop-drop (p + 1) t s, y, x))

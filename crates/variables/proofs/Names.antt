@@ -79,25 +79,28 @@ record Fixed (hs : List Header) : Type 0 where
   no-http : noneBegins (names hs) ≡ true
   count : length hs ≤ 16
 
-fixed-at : (s : Settings) (r : Route) (m : Meaning) (a : Option Auth) (c : Option (List ℕ)) → Fixed (fixed (authed s a) r (typed m c))
+fixed-at : (s : Settings) (r : Route) (m : Meaning) (n : ℕ) (a : Option Auth) (c : Option (List ℕ)) → Fixed (fixed (authed s a) r (typed m c) n)
 unfolding fixed different isIn sameBytes
-fixed-at s r m none none = record { differ = refl; no-http = refl; count = omega arith }
-fixed-at s r m none (some c) = record { differ = refl; no-http = refl; count = omega arith }
-fixed-at s r m (some a) none = record { differ = refl; no-http = refl; count = omega arith }
-fixed-at s r m (some a) (some c) = record { differ = refl; no-http = refl; count = omega arith }
+fixed-at s r m n none none = record { differ = refl; no-http = refl; count = omega arith }
+fixed-at s r m n none (some c) = record { differ = refl; no-http = refl; count = omega arith }
+fixed-at s r m n (some a) none = record { differ = refl; no-http = refl; count = omega arith }
+fixed-at s r m n (some a) (some c) = record { differ = refl; no-http = refl; count = omega arith }
 
 names-append : (hs ks : List Header) → names (hs ++ ks) ≡ names hs ++ names ks
 names-append [] ks = refl
 names-append (h ∷ hs) ks = rw (names-append hs ks)
 
 module _ (s : Settings) (r : Route) (m : Meaning) where
-  f : Fixed (fixed s r m)
-  f = fixed-at s r m (s .auth) (m .contentType)
+  abbrev before : List Header
+  before = fixed s r m (length (m .body))
+
+  f : Fixed before
+  f = fixed-at s r m (length (m .body)) (s .auth) (m .contentType)
 
   pub names-differ : All (ProperField isLowerName) (m .fields) → different (fieldNames (m .fields)) ≡ true → different (names (variables s r m)) ≡ true
   names-differ p d =
-      rw (names-append (fixed s r m) (map httpVariable (m .fields)))
-      (different-append (names (fixed s r m)) (names (map httpVariable (m .fields))) (f .differ) (all-apart (names (fixed s r m)) (m .fields) (f .no-http))
+      rw (names-append before (map httpVariable (m .fields)))
+      (different-append (names before) (names (map httpVariable (m .fields))) (f .differ) (all-apart (names before) (m .fields) (f .no-http))
       (different-http (m .fields) p ∙ d))
 
   pub variable-count : length (variables s r m) ≤ 16 + length (m .fields)

@@ -72,13 +72,13 @@ module _ (s : Settings) (r : Route) (m : Meaning) where
 
 -- the variables before the fields are as many, where Content-Type is there in both or in neither
 as-many :
-    (s : Settings) (r r′ : Route) (m m′ : Meaning) (a : Option Auth) (c : Option (List ℕ))
-    → length (fixed (authed s a) r (typed m c)) ≡ length (fixed (authed s a) r′ (typed m′ c))
+    (s : Settings) (r r′ : Route) (m m′ : Meaning) (n n′ : ℕ) (a : Option Auth) (c : Option (List ℕ))
+    → length (fixed (authed s a) r (typed m c) n) ≡ length (fixed (authed s a) r′ (typed m′ c) n′)
 unfolding fixed
-as-many s r r′ m m′ none none = refl
-as-many s r r′ m m′ none (some c) = refl
-as-many s r r′ m m′ (some a) none = refl
-as-many s r r′ m m′ (some a) (some c) = refl
+as-many s r r′ m m′ n n′ none none = refl
+as-many s r r′ m m′ n n′ none (some c) = refl
+as-many s r r′ m m′ n n′ (some a) none = refl
+as-many s r r′ m m′ n n′ (some a) (some c) = refl
 
 same-field : (f g : Field) → f .name ≡ g .name → f .value ≡ g .value → f ≡ g
 same-field f g n v =
@@ -114,8 +114,12 @@ variables-once s r r′ m m′ p p′ e b =
     let target : some (m .target) ≡ some (m′ .target) = sym (x .target) ∙ ap (valueIn (bytes "REQUEST_URI")) e ∙ y .target in
     let version : some (m .version) ≡ some (m′ .version) = sym (x .version) ∙ ap (valueIn (bytes "SERVER_PROTOCOL")) e ∙ y .version in
     let contentType : m .contentType ≡ m′ .contentType = sym (x .contentType) ∙ ap (valueIn (bytes "CONTENT_TYPE")) e ∙ y .contentType in
-    let n : length (fixed s r m) ≡ length (fixed s r′ m′) = as-many s r r′ m m′ (s .auth) (m .contentType) ∙ ap (λ (c : Option (List ℕ)). length (fixed s r′ (typed m′ c))) contentType in
-    let fields : m .fields ≡ m′ .fields = http-once (m .fields) (m′ .fields) (p .fields) (p′ .fields) (cut-length (fixed s r m) (fixed s r′ m′) (map httpVariable (m .fields)) (map httpVariable (m′ .fields)) n e .1) in
+    let a = fixed s r m (length (m .body)) in
+    let a′ = fixed s r′ m′ (length (m′ .body)) in
+    let n : length a ≡ length a′ =
+    as-many s r r′ m m′ (length (m .body)) (length (m′ .body)) (s .auth) (m .contentType)
+    ∙ ap (λ (c : Option (List ℕ)). length (fixed s r′ (typed m′ c) (length (m′ .body)))) contentType in
+    let fields : m .fields ≡ m′ .fields = http-once (m .fields) (m′ .fields) (p .fields) (p′ .fields) (cut-length a a′ (map httpVariable (m .fields)) (map httpVariable (m′ .fields)) n e .1) in
     sym (made-of m) ∙ all-equal (cc) (cc) (cc) contentType fields b ∙ made-of m′
   where
     all-equal :
@@ -154,7 +158,7 @@ remote-user neither = absent
 remote-user (both p q) = there q
 
 module _ (s : Settings) (r : Route) (m : Meaning) (ps : ProperSettings s) (pr : ProperRoute r) (pm : ProperMeaning m) where
-  fixed-proper : All Proper (fixed s r m)
+  fixed-proper : All Proper (fixed s r m (length (m .body)))
   unfolding fixed
   fixed-proper =
       present-proper _

@@ -1,11 +1,11 @@
 -- What is claimed of the variables of a request.
 -- Assumes nothing.
-use Prim.Native.Nat.{ℕ, _+_, _*_, _≤_, _<_}
+use Prim.Native.Nat.{ℕ, _+_, _*_, _≤_}
 use mathlib.Core.Path.{_≡_}
 use mathlib.Core.Bool.{Bool, true, not, _&&_}
 use mathlib.Core.List.{List, _∷_, map}
 use mathlib.Core.Option.{Option, none, some}
-use lib.ListN.{length, take}
+use lib.ListN.{length}
 use Rattle.octets.specs.Text.{bytes}
 use Rattle.octets.specs.Outcome.{gives}
 use Rattle.octets.specs.Kinds.{within, isName}
@@ -20,8 +20,6 @@ use Rattle.lent.specs.Claims.{ProperSettings, settingsSize}
 use Rattle.request.specs.Request.{Request, requestOf}
 use Rattle.variables.specs.Meaning.{Meaning, meaningOf}
 use Rattle.variables.specs.Variables.{variables}
-use Rattle.variables.specs.Put.{PutDone}
-use Rattle.variables.specs.declared.put.Put.the-variants.{At, Full}
 
 -- What makes routes, fields and meanings fit for a block: no NUL, and names of bytes that a field name has in lower case.
 
@@ -94,14 +92,3 @@ abbrev pub VariablesSayMeaning : Type 0
 VariablesSayMeaning =
     (s : Settings) (r r′ : Route) (m m′ : Meaning) → ProperMeaning m → ProperMeaning m′ → variables s r m ≡ variables s r′ m′ → m .body ≡ m′ .body
     → m ≡ m′
-
--- w was written to the front of the buffer d, up to n
-pub record FrontIs (d w d′ : List ℕ) (n : ℕ) : Type 0 where
-  pub bytes : take n d′ ≡ w
-  pub inside : n ≤ length d′
-  pub room : length w ≤ length d
-
--- what is written to a buffer's front stands there, or is longer than the buffer
-pub record PutsTold : Type 0 where
-  pub fits : {d w d′ : List ℕ} {n : ℕ} → PutDone d 0 w d′ (At n) → FrontIs d w d′ n
-  pub full : {d w d′ : List ℕ} → PutDone d 0 w d′ Full → length d < length w

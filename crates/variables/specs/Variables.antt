@@ -1,4 +1,4 @@
--- The variables of a request, and its SCGI bytes.
+-- The variables of a request.
 -- Assumes nothing.
 use Prim.Native.Nat.{ℕ}
 use Prim.Native.String.{String}
@@ -25,7 +25,11 @@ abbrev pub ifPresent : String → Option (List ℕ) → Option Header
 ifPresent n none = none
 ifPresent n (some v) = always n v
 
-abbrev pub present : List (Option Header) → List Header
+-- rows of variables; a row is none where its variable is not there
+abbrev pub Rows : Type 0
+Rows = List (Option Header)
+
+abbrev pub present : Rows → List Header
 present [] = []
 present (none ∷ hs) = present hs
 present (some h ∷ hs) = h ∷ present hs
@@ -49,28 +53,53 @@ httpName n = bytes "HTTP_" ++ map variableByte n
 abbrev pub httpVariable : Field → Header
 httpVariable f = record { name = httpName (f .name); value = f .value }
 
--- "Variables, in this order": those before the fields
-unfoldable pub fixed : Settings → Route → Meaning → List Header
-fixed s r m =
-    present (
-    always "CONTENT_LENGTH" (decimal (length (m .body)))
+-- "Variables, in this order": those before the fields, in the four groups in which they are written
+
+-- of the body's length, who asks, and the body's type
+abbrev pub contentRows : ℕ → Option Auth → Option (List ℕ) → Rows
+contentRows size auth contentType =
+    always "CONTENT_LENGTH" (decimal size)
     ∷ always "SCGI" (bytes "1")
-    ∷ ifPresent "AUTH_TYPE" (authTypeOf (s .auth))
-    ∷ ifPresent "CONTENT_TYPE" (m .contentType)
-    ∷ always "GATEWAY_INTERFACE" (bytes "CGI/1.1")
-    ∷ always "PATH_INFO" (r .pathInfo)
-    ∷ always "QUERY_STRING" (queryOf (m .target))
-    ∷ always "REMOTE_ADDR" (s .remoteAddr)
-    ∷ ifPresent "REMOTE_USER" (remoteUserOf (s .auth))
-    ∷ always "REQUEST_METHOD" (m .method)
-    ∷ always "REQUEST_URI" (m .target)
-    ∷ always "SCRIPT_NAME" (r .scriptName)
-    ∷ always "SERVER_NAME" (s .serverName)
-    ∷ always "SERVER_PORT" (s .serverPort)
-    ∷ always "SERVER_PROTOCOL" (m .version)
-    ∷ always "SERVER_SOFTWARE" (s .serverSoftware)
-    ∷ [])
+    ∷ ifPresent "AUTH_TYPE" (authTypeOf auth)
+    ∷ ifPresent "CONTENT_TYPE" contentType
+    ∷ []
+
+-- of the path behind the mount's name, the query and the address
+abbrev pub pathRows : List ℕ → List ℕ → List ℕ → Rows
+pathRows info query addr =
+    always "GATEWAY_INTERFACE" (bytes "CGI/1.1")
+    ∷ always "PATH_INFO" info
+    ∷ always "QUERY_STRING" query
+    ∷ always "REMOTE_ADDR" addr
+    ∷ []
+
+-- of who asks, the method and the target
+abbrev pub requestRows : Option Auth → List ℕ → List ℕ → Rows
+requestRows auth method target =
+    ifPresent "REMOTE_USER" (remoteUserOf auth)
+    ∷ always "REQUEST_METHOD" method
+    ∷ always "REQUEST_URI" target
+    ∷ []
+
+-- of the mount's name, and the server's name, port, version and software
+abbrev pub serverRows : List ℕ → List ℕ → List ℕ → List ℕ → List ℕ → Rows
+serverRows script name port version software =
+    always "SCRIPT_NAME" script
+    ∷ always "SERVER_NAME" name
+    ∷ always "SERVER_PORT" port
+    ∷ always "SERVER_PROTOCOL" version
+    ∷ always "SERVER_SOFTWARE" software
+    ∷ []
+
+-- .. for a body of `size` bytes
+unfoldable pub fixed : Settings → Route → Meaning → ℕ → List Header
+fixed s r m size =
+    present (
+    contentRows size (s .auth) (m .contentType)
+    ++ (pathRows (r .pathInfo) (queryOf (m .target)) (s .remoteAddr)
+    ++ (requestRows (s .auth) (m .method) (m .target)
+    ++ serverRows (r .scriptName) (s .serverName) (s .serverPort) (m .version) (s .serverSoftware))))
 
 -- "Then one HTTP_ variable for each passed field name"
 abbrev pub variables : Settings → Route → Meaning → List Header
-variables s r m = fixed s r m ++ map httpVariable (m .fields)
+variables s r m = fixed s r m (length (m .body)) ++ map httpVariable (m .fields)

@@ -6,17 +6,15 @@ ghost use Prim.Native.Nat.{_+_, _*_, _≤_, _<_};
 ghost use lib.ListN.{length, take, drop};
 ghost use Rattle.octets.specs.Compare.{lowerOf};
 ghost use Rattle.octets.specs.Lists.{isIn, different};
-ghost use Rattle.headers.specs.Block.{printed};
-ghost use Rattle.http.specs.Fields.{fieldAt, fieldsAt, Inside, AllInside};
-ghost use Rattle.variables.specs.Fields.{notPassed, separator, groupedOf};
-ghost use Rattle.variables.specs.Variables.{variableByte, httpName, httpVariable};
-ghost use Rattle.variables.specs.Put.{variable, ifThere, PutDone};
-ghost use Rattle.variables.specs.FieldVariables.{lowName, namesBefore, addedAt, addedAfter, valueFrom, makes, variableFrom};
-use crate::put::Put;
-use crate::put::put_piece;
+ghost use Rattle.octets.specs.Copy.{Wrote};
+ghost use Rattle.variables.specs.Fields.{notPassed, separator};
+ghost use Rattle.variables.specs.Variables.{variableByte, httpName};
+ghost use Rattle.variables.specs.FieldVariables.{lowName, namesBefore, addedTo, addedAfter, variableFrom, variableAlone, variableIf, fieldsBytes, StoredAt, StoredAll, FieldKnown, RepeatKnown};
 use crate::put::put_value;
+use bulk::copy::put_any;
 use octets::compare::same_letters;
 use octets::compare::upper;
+use octets::copy::put;
 use request::stored::field_name;
 use request::stored::field_value;
 use request::stored::has_name;
@@ -62,7 +60,7 @@ fn not_passed(name: &[u8]) -> bool
 
 // Whether a field before number k has its name.
 fn seen_before(head: &[u8], places: &[u64], k: usize, n: usize) -> bool
-    requires { ⌜ (k < n) × (4 * n ≤ length (now places)) × AllInside (now head) (now places) n ⌝ }
+    requires { ⌜ FieldKnown (now head) (now places) n k ⌝ }
     ensures { λ r. ⌜ r ≡ isIn (lowName (now (head .entry)) (now (places .entry)) k) (namesBefore (now (head .entry)) (now (places .entry)) k) ⌝ }
 {
     let name = field_name(head, places, k);
@@ -78,7 +76,7 @@ fn seen_before(head: &[u8], places: &[u64], k: usize, n: usize) -> bool
 
 // Whether two of n fields have the same name, letter case aside.
 fn names_repeat(head: &[u8], places: &[u64], n: usize) -> bool
-    requires { ⌜ (4 * n ≤ length (now places)) × AllInside (now head) (now places) n ⌝ }
+    requires { ⌜ StoredAll (now head) (now places) n ⌝ }
     ensures { λ r. ⌜ r ≡ not (different (namesBefore (now (head .entry)) (now (places .entry)) n)) ⌝ }
 {
     let mut k = n;
@@ -102,36 +100,27 @@ fn variable_byte(b: u8) -> u8
 }
 
 // Writes a field's name as its variable has it.
-fn put_name(out: &mut [u8], at: usize, name: &[u8]) -> Put
-    requires { ⌜ at ≤ length (now out) ⌝ }
-    ensures { λ r. ⌜ PutDone (now (out .entry)) at (map variableByte (map lowerOf (now (name .entry)))) (now (out .exit)) r ⌝ }
+fn put_name(out: &mut [u8], at: usize, name: &[u8]) -> usize
+    requires { ⌜ at + length (now name) ≤ length (now out) ⌝ }
+    ensures { λ r. ⌜ Wrote (now (out .entry)) at (map variableByte (map lowerOf (now (name .entry)))) (now (out .exit)) r ⌝ }
 {
-    if out.len() - at < name.len() {
-        return Put::Full;
-    }
     let mut i: usize = 0;
     while i < name.len() {
         let b = variable_byte(name[i]);
         out[at + i] = b;
         i += 1;
     }
-    Put::At(at + i)
+    at + i
 }
 
 // Writes the name of a field's variable, and a NUL.
-fn put_http_name(out: &mut [u8], at: usize, name: &[u8]) -> Put
-    requires { ⌜ at ≤ length (now out) ⌝ }
-    ensures { λ r. ⌜ PutDone (now (out .entry)) at (httpName (map lowerOf (now (name .entry))) ++ 0 ∷ []) (now (out .exit)) r ⌝ }
+fn put_http_name(out: &mut [u8], at: usize, name: &[u8]) -> usize
+    requires { ⌜ at + length (now name) + 6 ≤ length (now out) ⌝ }
+    ensures { λ r. ⌜ Wrote (now (out .entry)) at (httpName (map lowerOf (now (name .entry))) ++ 0 ∷ []) (now (out .exit)) r ⌝ }
 {
-    let p = put_piece(out, at, b"HTTP_");
-    let Put::At(n) = p else {
-        return Put::Full;
-    };
-    let q = put_name(out, n, name);
-    let Put::At(m) = q else {
-        return Put::Full;
-    };
-    put_piece(out, m, b"\0")
+    let n = put(out, at, b"HTTP_");
+    let m = put_name(out, n, name);
+    put(out, m, b"\0")
 }
 
 // What stands between two values of a name: a worker splits cookies at semicolons, other values at commas.
@@ -153,81 +142,54 @@ fn put_added(
     between: &[u8],
     out: &mut [u8],
     at: usize,
-) -> Put
-    requires { ⌜ (4 * j + 3 < length (now places)) × Inside (now head) (now places) j × (at ≤ length (now out)) ⌝ }
-    ensures { λ r. ⌜ PutDone (now (out .entry)) at (addedAt (now (head .entry)) (now (places .entry)) (map lowerOf (now (name .entry))) (now (between .entry)) j) (now (out .exit)) r ⌝ }
+) -> usize
+    requires { ⌜ StoredAt (now head) (now places) j × (at + length (addedTo (now head) (now places) (now name) (now between) j) ≤ length (now out)) ⌝ }
+    ensures { λ r. ⌜ Wrote (now (out .entry)) at (addedTo (now (head .entry)) (now (places .entry)) (now (name .entry)) (now (between .entry)) j) (now (out .exit)) r ⌝ }
 {
     if !has_name(head, places, j, name) {
-        return Put::At(at);
+        return at;
     }
-    let p = put_piece(out, at, between);
-    let Put::At(n) = p else {
-        return Put::Full;
-    };
+    let n = put(out, at, between);
     let value = field_value(head, places, j);
-    put_piece(out, n, value)
+    put_any(out, n, value)
 }
 
 // Writes what the fields after number k add to its value.
-fn put_later(head: &[u8], places: &[u64], k: usize, n: usize, out: &mut [u8], at: usize) -> Put
-    requires { ⌜ (k < n) × (4 * n ≤ length (now places)) × AllInside (now head) (now places) n × (at ≤ length (now out)) ⌝ }
-    ensures { λ r. ⌜ PutDone (now (out .entry)) at (addedAfter (now (head .entry)) (now (places .entry)) n k) (now (out .exit)) r ⌝ }
+fn put_later(head: &[u8], places: &[u64], k: usize, n: usize, out: &mut [u8], at: usize) -> usize
+    requires { ⌜ FieldKnown (now head) (now places) n k × (at + length (addedAfter (now head) (now places) n k) ≤ length (now out)) ⌝ }
+    ensures { λ r. ⌜ Wrote (now (out .entry)) at (addedAfter (now (head .entry)) (now (places .entry)) n k) (now (out .exit)) r ⌝ }
 {
     let name = field_name(head, places, k);
     let between = separator(name);
     let mut p = at;
     let mut j = k + 1;
     while j < n {
-        let r = put_added(head, places, j, name, &between, out, p);
-        let Put::At(m) = r else {
-            return Put::Full;
-        };
-        p = m;
+        p = put_added(head, places, j, name, &between, out, p);
         j += 1;
     }
-    Put::At(p)
+    p
 }
 
-// Writes the value of the field with number k, joined with those of the later ones of its name, and a NUL.
-fn put_values(head: &[u8], places: &[u64], k: usize, n: usize, out: &mut [u8], at: usize) -> Put
-    requires { ⌜ (k < n) × (4 * n ≤ length (now places)) × AllInside (now head) (now places) n × (at ≤ length (now out)) ⌝ }
-    ensures { λ r. ⌜ PutDone (now (out .entry)) at (valueFrom (now (head .entry)) (now (places .entry)) n k ++ 0 ∷ []) (now (out .exit)) r ⌝ }
-{
-    let value = field_value(head, places, k);
-    let p = put_piece(out, at, value);
-    let Put::At(m) = p else {
-        return Put::Full;
-    };
-    let q = put_later(head, places, k, n, out, m);
-    let Put::At(e) = q else {
-        return Put::Full;
-    };
-    put_piece(out, e, b"\0")
-}
-
-// Writes the variable that the field with number k makes.
-fn put_field(head: &[u8], places: &[u64], k: usize, n: usize, out: &mut [u8], at: usize) -> Put
-    requires { ⌜ (k < n) × (4 * n ≤ length (now places)) × AllInside (now head) (now places) n × (at ≤ length (now out)) ⌝ }
-    ensures { λ r. ⌜ PutDone (now (out .entry)) at (variableFrom (now (head .entry)) (now (places .entry)) n k) (now (out .exit)) r ⌝ }
+// Writes the variable that the field with number k makes: its value is joined with those of the later ones of its name.
+fn put_field(head: &[u8], places: &[u64], k: usize, n: usize, out: &mut [u8], at: usize) -> usize
+    requires { ⌜ FieldKnown (now head) (now places) n k × (at + length (variableFrom (now head) (now places) n k) ≤ length (now out)) ⌝ }
+    ensures { λ r. ⌜ Wrote (now (out .entry)) at (variableFrom (now (head .entry)) (now (places .entry)) n k) (now (out .exit)) r ⌝ }
 {
     let name = field_name(head, places, k);
-    let p = put_http_name(out, at, name);
-    let Put::At(m) = p else {
-        return Put::Full;
-    };
-    put_values(head, places, k, n, out, m)
+    let a = put_http_name(out, at, name);
+    let value = field_value(head, places, k);
+    let b = put_any(out, a, value);
+    let c = put_later(head, places, k, n, out, b);
+    put(out, c, b"\0")
 }
 
 // Writes the variable of the field with number k where no other field has its name.
-fn put_alone(head: &[u8], places: &[u64], k: usize, out: &mut [u8], at: usize) -> Put
-    requires { ⌜ (4 * k + 3 < length (now places)) × Inside (now head) (now places) k × (at ≤ length (now out)) ⌝ }
-    ensures { λ r. ⌜ PutDone (now (out .entry)) at (variable (httpName (lowName (now (head .entry)) (now (places .entry)) k)) (fieldAt (now (head .entry)) (now (places .entry)) k .value)) (now (out .exit)) r ⌝ }
+fn put_alone(head: &[u8], places: &[u64], k: usize, out: &mut [u8], at: usize) -> usize
+    requires { ⌜ StoredAt (now head) (now places) k × (at + length (variableAlone (now head) (now places) k) ≤ length (now out)) ⌝ }
+    ensures { λ r. ⌜ Wrote (now (out .entry)) at (variableAlone (now (head .entry)) (now (places .entry)) k) (now (out .exit)) r ⌝ }
 {
     let name = field_name(head, places, k);
-    let p = put_http_name(out, at, name);
-    let Put::At(m) = p else {
-        return Put::Full;
-    };
+    let m = put_http_name(out, at, name);
     let value = field_value(head, places, k);
     put_value(out, m, value)
 }
@@ -241,39 +203,36 @@ fn put_new(
     repeat: bool,
     out: &mut [u8],
     at: usize,
-) -> Put
-    requires { ⌜ (k < n) × (4 * n ≤ length (now places)) × AllInside (now head) (now places) n × (repeat ≡ not (different (namesBefore (now head) (now places) n))) × (at ≤ length (now out)) ⌝ }
-    ensures { λ r. ⌜ PutDone (now (out .entry)) at (ifThere (makes (now (head .entry)) (now (places .entry)) k) (variableFrom (now (head .entry)) (now (places .entry)) n k)) (now (out .exit)) r ⌝ }
+) -> usize
+    requires { ⌜ FieldKnown (now head) (now places) n k × RepeatKnown (now head) (now places) n repeat
+        × (at + length (variableIf (now head) (now places) n k) ≤ length (now out)) ⌝ }
+    ensures { λ r. ⌜ Wrote (now (out .entry)) at (variableIf (now (head .entry)) (now (places .entry)) n k) (now (out .exit)) r ⌝ }
 {
     let name = field_name(head, places, k);
     if not_passed(name) {
-        return Put::At(at);
+        return at;
     }
     if !repeat {
         return put_alone(head, places, k, out, at);
     }
     if seen_before(head, places, k, n) {
-        return Put::At(at);
+        return at;
     }
     put_field(head, places, k, n, out, at)
 }
 
 // Writes one variable for each name of the passed fields, by first appearance.
 // Most requests have no name twice: that is tested once, and each field is then written with no further comparison.
-pub fn put_fields(head: &[u8], places: &[u64], n: usize, out: &mut [u8], at: usize) -> Put
-    requires { ⌜ (4 * n ≤ length (now places)) × AllInside (now head) (now places) n × (n ≤ 64) × (at ≤ length (now out)) ⌝ }
-    ensures { λ r. ⌜ PutDone (now (out .entry)) at (printed (map httpVariable (groupedOf (fieldsAt (now (head .entry)) (now (places .entry)) 0 n)))) (now (out .exit)) r ⌝ }
+pub fn put_fields(head: &[u8], places: &[u64], n: usize, out: &mut [u8], at: usize) -> usize
+    requires { ⌜ StoredAll (now head) (now places) n × (at + length (fieldsBytes (now head) (now places) n) ≤ length (now out)) ⌝ }
+    ensures { λ r. ⌜ Wrote (now (out .entry)) at (fieldsBytes (now (head .entry)) (now (places .entry)) n) (now (out .exit)) r ⌝ }
 {
     let repeat = names_repeat(head, places, n);
     let mut p = at;
     let mut k: usize = 0;
     while k < n {
-        let r = put_new(head, places, k, n, repeat, out, p);
-        let Put::At(m) = r else {
-            return Put::Full;
-        };
-        p = m;
+        p = put_new(head, places, k, n, repeat, out, p);
         k += 1;
     }
-    Put::At(p)
+    p
 }

@@ -1,191 +1,121 @@
 -- `variables::block::put_block` meets its contract.
 -- Assumes nothing.
+use Prim.Native.Nat.{ℕ, _≤_}
+use mathlib.Core.Path.{_≡_, refl}
+use mathlib.Core.List.{List, _++_}
 use native.Mathlib.Omega.{arith}
-use mathlib.Core.Path.{sym}
-use lib.ListN.{length-take}
-use Rattle.variables.proofs.Puts.{put-then, put-full, put-within, put-length}
-use Rattle.variables.proofs.Blocks.{block-parts}
+use lib.ListN.{length}
 use borrow.Author.Needs.{needs}
+use Rattle.headers.specs.Block.{printed}
+use Rattle.octets.specs.Copy.{Wrote}
+use Rattle.variables.specs.FixedVariables.{contentVariables, pathVariables, requestVariables, serverVariables}
+use Rattle.variables.specs.FieldVariables.{fieldsBytes}
+use Rattle.variables.specs.Block.{blockAt}
+use Rattle.variables.proofs.Puts.{Left, left-all, left-room, left-more, left-last}
+use Rattle.variables.proofs.Blocks.{behindRequest, behindPath, behindContent, block-parts}
 use Rattle.variables.proofs.block.put_block.Statement.{statement}
 use Rattle.variables.proofs.block.put_block.Tie as tie
 
-put-start-requires : tie.Need-put-start-requires
-put-start-requires c κs = (c .before .before .before .before .before .before .before .before .pre .settings .auth, c .before .before .before .before .before .before .before .before .pre .fields .type-inside)
+-- The start, from each place where one more is written.
 
-enum-known-a : tie.Need-enum-known-a
-enum-known-a c = search needs
+abbrev start₁ : tie.After-slice-known2 → tie.Start
+start₁ c = c .before .before .before .before .before .before .before .before .before .before
 
-enum-told : tie.Need-enum-told
-enum-told c = search needs
+abbrev start₂ : tie.After-slice-known3 → tie.Start
+start₂ c = start₁ (c .before .before .before .before)
+
+abbrev start₃ : tie.After-slice-known4 → tie.Start
+start₃ c = start₂ (c .before .before .before .before)
+
+abbrev start₄ : tie.After-slice-known5 → tie.Start
+start₄ c = start₃ (c .before .before .before .before)
+
+abbrev block : tie.Start → List ℕ
+block s = blockAt (s .args .facts .now) (s .args .site .now) (s .args .head .now) (s .args .places .now) (s .args .path .now) (s .args .k) (s .args .size)
+
+-- v, a function of what is lent, is left
+abbrev Rest : (s : tie.Start) → List ℕ → ℕ → List ℕ → Type 0
+Rest s out p v = Left (s .args .out .now) 0 (block s) out p v
+
+-- what is written behind each group
+abbrev server : tie.Start → List ℕ
+server s = behindRequest (s .args .facts .now) (s .args .site .now) (s .args .head .now) (s .args .places .now) (s .args .path .now) (s .args .k)
+
+abbrev request : tie.Start → List ℕ
+request s = behindPath (s .args .facts .now) (s .args .site .now) (s .args .head .now) (s .args .places .now) (s .args .path .now) (s .args .k)
+
+abbrev path : tie.Start → List ℕ
+path s = behindContent (s .args .facts .now) (s .args .site .now) (s .args .head .now) (s .args .places .now) (s .args .path .now) (s .args .k)
+
+abbrev fields : tie.Start → List ℕ
+fields s = fieldsBytes (s .args .head .now) (s .args .places .now) (s .args .k .fields .count)
+
+apart : (s : tie.Start) → block s ≡ printed (contentVariables (s .args .facts .now) (s .args .head .now) (s .args .k) (s .args .size)) ++ path s
+apart s = block-parts _ _ _ _ _ _ (s .pre .0) (s .args .size)
+
+start : (s : tie.Start) → Rest s (s .args .out .now) 0 (block s)
+start s = left-all (omega (arith, s .pre .1))
+
+first : (c : tie.After-slice-known2) → Rest (start₁ c) (c .before .before .put-content .last .1 .1 .1 .1 .0) (c .before .before .put-content .result) (path (start₁ c))
+first c = left-more _ (apart (start₁ c)) (start (start₁ c)) (c .before .before .put-content .ensures)
+
+second : (c : tie.After-slice-known3) → Rest (start₂ c) (c .before .before .put-path .last .1 .1 .1 .1 .0) (c .before .before .put-path .result) (request (start₂ c))
+second c = left-more _ refl (first (c .before .before .before .before)) (c .before .before .put-path .ensures)
+
+third : (c : tie.After-slice-known4) → Rest (start₃ c) (c .before .before .put-request .last .1 .1 .1 .0) (c .before .before .put-request .result) (server (start₃ c))
+third c = left-more _ refl (second (c .before .before .before .before)) (c .before .before .put-request .ensures)
+
+fourth : (c : tie.After-slice-known5) → Rest (start₄ c) (c .before .before .put-server .last .1 .1 .1 .1 .0) (c .before .before .put-server .result) (fields (start₄ c))
+fourth c = left-more _ refl (third (c .before .before .before .before)) (c .before .before .put-server .ensures)
+
+put-content-requires : tie.Need-put-content-requires
+put-content-requires c κs =
+    let s = c .before .before .before .before .before .before .before in
+    let k = s .pre .0 in
+    let a = s .args in
+    let room = left-room (printed (contentVariables (a .facts .now) (a .head .now) (a .k) (a .size))) _ (apart s) (start s) in
+    ((k .settings .auth, k .fields .type-inside), omega (arith, room))
+
+put-path-requires : tie.Need-put-path-requires
+put-path-requires c κs =
+    let s = c .before .before .before .before .before .before .before .before .before .before .before in
+    let k = s .pre .0 in
+    let a = s .args in
+    ((k .settings .addr, k .line, k .name), left-room (printed (pathVariables (a .facts .now) (a .head .now) (a .path .now) (a .k))) _ refl (first (c .before)))
+
+put-request-requires : tie.Need-put-request-requires
+put-request-requires c κs =
+    let s = c .before .before .before .before .before .before .before .before .before .before .before .before .before .before .before in
+    let k = s .pre .0 in
+    let a = s .args in
+    ((k .settings .auth, k .line .method-inside, k .line .target-inside), left-room (printed (requestVariables (a .facts .now) (a .head .now) (a .k))) _ refl (second (c .before)))
+
+put-server-requires : tie.Need-put-server-requires
+put-server-requires c κs =
+    let s = c .before .before .before .before .before .before .before .before .before .before .before .before .before .before .before .before .before .before .before in
+    let k = s .pre .0 in
+    let a = s .args in
+    ((k .settings, k .line .minor-is, k .name, k .line .decoded-inside), left-room (printed (serverVariables (a .facts .now) (a .site .now) (a .path .now) (a .k))) _ refl (third (c .before)))
+
+put-fields-requires : tie.Need-put-fields-requires
+put-fields-requires c κs =
+    let k = c .before .before .before .before .before .before .before .before .before .before .before .before .before .before .before .before .before .before .before .before .before .before .before .pre .0 in
+    ((omega (arith, k .fields .few, k .numbers), k .fields .inside), fourth (c .before) .room)
 
 same-length : tie.Need-same-length
 same-length c = search needs
 
 returns : tie.Need-returns
-returns c =
-    let p₁ = c .before .before .before .before in
-    let s = p₁ .before .before .before .before .before .before .before .before .before in
-    let whole = sym (block-parts (s .args .facts .now) (s .args .site .now) (s .args .head .now) (s .args .places .now) (s .args .path .now) (s .args .body .now) (s .args .settings) (s .args .line) (s .args .fields) (s .args .name-len) (s .pre)) in
-    rw whole (put-full _ (put-full _ (put-full _ (put-full _ (rw (c .enum-told .given .1) at (p₁ .put-start .ensures))))))
-
-sub-info : tie.Need-sub-info
-sub-info c = search needs
-
-part-info-start : tie.Need-part-info-start
-part-info-start c = c .before .before .before .before .before .before .before .before .before .before .before .before .before .before .pre .name
-
-part-info-end : tie.Need-part-info-end
-part-info-end c = c .before .before .before .before .before .before .before .before .before .before .before .before .before .before .pre .line .decoded-inside
-
-put-where-requires : tie.Need-put-where-requires
-put-where-requires c κs =
-    let p₁ = c .before .before .before in
-    let p₂ = p₁ .before .before .before .before in
-    let s = p₂ .before .before .before .before .before .before .before .before .before in
-    (s .pre .settings .addr, put-within (rw (p₁ .a .given .1) at (p₂ .put-start .ensures)), s .pre .line .target-inside, s .pre .line .path-inside, s .pre .line .query-is)
-
-enum-known-b : tie.Need-enum-known-b
-enum-known-b c = search needs
-
-enum-told-2 : tie.Need-enum-told-2
-enum-told-2 c = search needs
-
-same-length-2 : tie.Need-same-length-2
-same-length-2 c = search needs
-
-returns-2 : tie.Need-returns-2
-returns-2 c =
-    let p₁ = c .before .before .before .before in
-    let p₂ = p₁ .before .before .before .before in
-    let p₃ = p₂ .before .before .before .before in
-    let s = p₃ .before .before .before .before .before .before .before .before .before in
-    let whole = sym (block-parts (s .args .facts .now) (s .args .site .now) (s .args .head .now) (s .args .places .now) (s .args .path .now) (s .args .body .now) (s .args .settings) (s .args .line) (s .args .fields) (s .args .name-len) (s .pre)) in
-    rw whole (put-full _ (put-full _ (put-full _ (put-then (rw (p₂ .a .given .1) at (p₃ .put-start .ensures)) (rw (c .enum-told2 .given .1) at (p₁ .put-where .ensures))))))
-
-put-asked-requires : tie.Need-put-asked-requires
-put-asked-requires c κs =
-    let p₁ = c .before .before in
-    let p₂ = p₁ .before .before .before .before in
-    let s = p₂ .before .before .before .before .before .before .before .before .before .before .before .before .before .before .before .before .before in
-    (s .pre .settings .auth, put-within (rw (p₁ .b .given .1) at (p₂ .put-where .ensures)), s .pre .line .method-inside, s .pre .line .target-inside)
-
-enum-known-c : tie.Need-enum-known-c
-enum-known-c c = search needs
-
-enum-told-3 : tie.Need-enum-told-3
-enum-told-3 c = search needs
-
-same-length-3 : tie.Need-same-length-3
-same-length-3 c = search needs
-
-returns-3 : tie.Need-returns-3
-returns-3 c =
-    let p₁ = c .before .before .before .before in
-    let p₂ = p₁ .before .before .before in
-    let p₃ = p₂ .before .before .before .before in
-    let p₄ = p₃ .before .before .before .before in
-    let p₅ = p₄ .before .before .before .before in
-    let s = p₅ .before .before .before .before .before .before .before .before .before in
-    let whole = sym (block-parts (s .args .facts .now) (s .args .site .now) (s .args .head .now) (s .args .places .now) (s .args .path .now) (s .args .body .now) (s .args .settings) (s .args .line) (s .args .fields) (s .args .name-len) (s .pre)) in
-    rw whole (put-full _ (put-full _ (put-then (put-then (rw (p₄ .a .given .1) at (p₅ .put-start .ensures)) (rw (p₂ .b .given .1) at (p₃ .put-where .ensures))) (rw (c .enum-told3 .given .1) at (p₁ .put-asked .ensures)))))
-
-slice-aggregate-script : tie.Need-slice-aggregate-script
-slice-aggregate-script c =
-    let s = c .before .before .before .before .before .before .before .before .before .before .before .before .before .before .before .before .before .before .before .before .before .before .before .before .before .before .before .before .before .before in
-    simp length-take (omega (arith, s .pre .name, s .pre .line .decoded-inside))
-
-put-served-requires : tie.Need-put-served-requires
-put-served-requires c κs =
-    let p₁ = c .before .before .before in
-    let p₂ = p₁ .before .before .before .before in
-    let s = p₂ .before .before .before .before .before .before .before .before .before .before .before .before .before .before .before .before .before .before .before .before .before .before .before .before in
-    (s .pre .settings, s .pre .line .minor-is, put-within (rw (p₁ .c .given .1) at (p₂ .put-asked .ensures)))
-
-enum-known-d : tie.Need-enum-known-d
-enum-known-d c = search needs
-
-enum-told-4 : tie.Need-enum-told-4
-enum-told-4 c = search needs
-
-same-length-4 : tie.Need-same-length-4
-same-length-4 c = search needs
-
-returns-4 : tie.Need-returns-4
-returns-4 c =
-    let p₁ = c .before .before .before .before in
-    let p₂ = p₁ .before .before .before .before in
-    let p₃ = p₂ .before .before .before .before in
-    let p₄ = p₃ .before .before .before in
-    let p₅ = p₄ .before .before .before .before in
-    let p₆ = p₅ .before .before .before .before in
-    let p₇ = p₆ .before .before .before .before in
-    let s = p₇ .before .before .before .before .before .before .before .before .before in
-    let whole = sym (block-parts (s .args .facts .now) (s .args .site .now) (s .args .head .now) (s .args .places .now) (s .args .path .now) (s .args .body .now) (s .args .settings) (s .args .line) (s .args .fields) (s .args .name-len) (s .pre)) in
-    rw whole (put-full _ (put-then (put-then (put-then (rw (p₆ .a .given .1) at (p₇ .put-start .ensures)) (rw (p₄ .b .given .1) at (p₅ .put-where .ensures))) (rw (p₂ .c .given .1) at (p₃ .put-asked .ensures))) (rw (c .enum-told4 .given .1) at (p₁ .put-served .ensures))))
-
-put-fields-requires : tie.Need-put-fields-requires
-put-fields-requires c κs =
-    let p₁ = c .before .before in
-    let p₂ = p₁ .before .before .before .before in
-    let s = p₂ .before .before .before .before .before .before .before .before .before .before .before .before .before .before .before .before .before .before .before .before .before .before .before .before .before .before .before .before .before .before .before .before in
-    (omega (arith, s .pre .numbers, s .pre .fields .few), s .pre .fields .inside, s .pre .fields .few, put-within (rw (p₁ .d .given .1) at (p₂ .put-served .ensures)))
-
-same-length-5 : tie.Need-same-length-5
-same-length-5 c =
-    let p₁ = c .before .before in
-    let p₂ = p₁ .before .before .before in
-    let p₃ = p₂ .before .before .before .before in
-    let p₄ = p₃ .before .before .before .before in
-    let p₅ = p₄ .before .before .before .before in
-    let p₆ = p₅ .before .before .before in
-    let p₇ = p₆ .before .before .before .before in
-    let p₈ = p₇ .before .before .before .before in
-    let s = p₈ .before .before .before .before in
-    put-length (put-then (put-then (put-then (put-then (rw (p₈ .a .given .1) at (s .put-start .ensures)) (rw (p₆ .b .given .1) at (p₇ .put-where .ensures))) (rw (p₄ .c .given .1) at (p₅ .put-asked .ensures))) (rw (p₂ .d .given .1) at (p₃ .put-served .ensures))) (p₁ .put-fields .ensures))
-
-returns-5 : tie.Need-returns-5
-returns-5 c =
-    let p₁ = c .before .before in
-    let p₂ = p₁ .before .before .before in
-    let p₃ = p₂ .before .before .before .before in
-    let p₄ = p₃ .before .before .before .before in
-    let p₅ = p₄ .before .before .before .before in
-    let p₆ = p₅ .before .before .before in
-    let p₇ = p₆ .before .before .before .before in
-    let p₈ = p₇ .before .before .before .before in
-    let p₉ = p₈ .before .before .before .before in
-    let s = p₉ .before .before .before .before .before .before .before .before .before in
-    let whole = sym (block-parts (s .args .facts .now) (s .args .site .now) (s .args .head .now) (s .args .places .now) (s .args .path .now) (s .args .body .now) (s .args .settings) (s .args .line) (s .args .fields) (s .args .name-len) (s .pre)) in
-    rw whole (put-then (put-then (put-then (put-then (rw (p₈ .a .given .1) at (p₉ .put-start .ensures)) (rw (p₆ .b .given .1) at (p₇ .put-where .ensures))) (rw (p₄ .c .given .1) at (p₅ .put-asked .ensures))) (rw (p₂ .d .given .1) at (p₃ .put-served .ensures))) (p₁ .put-fields .ensures))
+returns c = left-last (fourth (c .before .before .before .before)) (c .before .before .put-fields .ensures)
 
 pub put-block-spec : {M : Type 1} → statement M
 put-block-spec =
     tie.close
     (tie.spec
-    put-start-requires
-    enum-known-a
-    enum-told
-    same-length
-    returns
-    sub-info
-    part-info-start
-    part-info-end
-    put-where-requires
-    enum-known-b
-    enum-told-2
-    same-length-2
-    returns-2
-    put-asked-requires
-    enum-known-c
-    enum-told-3
-    same-length-3
-    returns-3
-    slice-aggregate-script
-    put-served-requires
-    enum-known-d
-    enum-told-4
-    same-length-4
-    returns-4
+    put-content-requires
+    put-path-requires
+    put-request-requires
+    put-server-requires
     put-fields-requires
-    same-length-5
-    returns-5)
+    same-length
+    returns)

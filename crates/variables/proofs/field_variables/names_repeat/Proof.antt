@@ -25,7 +25,7 @@ sub-k c = search needs
 seen-before-requires : tie.Need-seen-before-requires Inv-loop μ-loop
 seen-before-requires c κs =
     let s = c .before .before .before .before in
-    (omega arith, s .pre .0, s .pre .1)
+    (omega arith, s .pre)
 
 returns : tie.Need-returns Inv-loop μ-loop
 returns c = rw (c .before .before .before .loop .inv .1 ∙ differ-next _ _ _ (c .before .before .loop-test .taken), sym (c .before .seen-before .ensures) ∙ c .if1 .taken)

@@ -1,54 +1,51 @@
 -- `variables::field_variables::put_alone` meets its contract.
 -- Assumes nothing.
-use Rattle.variables.proofs.Puts.{put-then, put-full, put-within}
+use Prim.Native.Nat.{_+_, _≤_}
+use mathlib.Core.List.{[], _∷_, _++_}
+use native.Mathlib.Omega.{arith}
+use lib.ListN.{length, length-append, length-map}
+use borrow.Author.Needs.{needs}
+use Rattle.octets.specs.Copy.{Wrote}
+use Rattle.octets.proofs.Copies.{and-then}
+use Rattle.http.specs.Fields.{fieldAt}
+use Rattle.variables.specs.Variables.{httpName}
+use Rattle.variables.specs.FieldVariables.{lowName}
 use Rattle.variables.proofs.field_variables.put_alone.Statement.{statement}
 use Rattle.variables.proofs.field_variables.put_alone.Tie as tie
-use Rattle.variables.specs.FieldVariables.{lowName}
-use Rattle.variables.specs.Put.{PutDone}
-use Rattle.variables.specs.Variables.{httpName}
-use Rattle.variables.specs.declared.put.Put.the-variants.{At}
-use Rattle.http.specs.Fields.{fieldAt}
-use borrow.Author.Needs.{needs}
-use mathlib.Core.List.{[], _∷_, _++_}
 
--- the name and its NUL, where the pattern matched
-first :
-    (c : tie.After-known-told)
-    → (let a = c .before .before .before .before .before .before .before .before .before .before .before .args in
-    PutDone (a .out .now) (a .at) (httpName (lowName (a .head .now) (a .places .now) (a .k)) ++ 0 ∷ []) (c .before .before .before .before .before .put-http-name .last .0) (At (c .before .p .given .0 .0)))
-first c = rw (c .before .p .given .1, c .before .before .before .before .before .before .before .field-name .ensures .0) at (c .before .before .before .before .before .put-http-name .ensures)
+room :
+    (s : tie.Start)
+    → (let a = s .args in
+    let f = fieldAt (a .head .now) (a .places .now) (a .k) in
+    a .at + (length (f .name) + 6) + (length (f .value) + 1) ≤ length (a .out .now))
+room s = omega (arith, simp (length-append, length-map) at (s .pre .1))
+
+-- the name and its NUL
+named :
+    (c : tie.After-slice-known2)
+    → (let a = c .before .before .before .before .before .before .before .before .args in
+    Wrote (a .out .now) (a .at) (httpName (lowName (a .head .now) (a .places .now) (a .k)) ++ 0 ∷ []) (c .before .before .put-http-name .last .0) (c .before .before .put-http-name .result))
+named c = rw (c .before .before .before .before .field-name .ensures .0) at (c .before .before .put-http-name .ensures)
 
 field-name-requires : tie.Need-field-name-requires
-field-name-requires c κs = search needs
+field-name-requires c κs = c .before .before .before .pre .0
 
 put-http-name-requires : tie.Need-put-http-name-requires
-put-http-name-requires c κs = search needs
+put-http-name-requires c κs = rw (c .before .field-name .ensures .0) (omega (arith, room (c .before .before .before .before .before)))
 
-enum-known-p : tie.Need-enum-known-p
-enum-known-p c = search needs
+field-value-requires : tie.Need-field-value-requires
+field-value-requires c κs = c .before .before .before .before .before .before .before .before .pre .0
 
-enum-told : tie.Need-enum-told
-enum-told c = search needs
+put-value-requires : tie.Need-put-value-requires
+put-value-requires c κs = rw (c .before .field-value .ensures .0) (omega (arith, room (c .before .before .before .before .before .before .before .before .before .before), simp (length-append, length-map) at (named (c .before .before) .ends)))
 
 same-length : tie.Need-same-length
 same-length c = search needs
 
 returns : tie.Need-returns
 returns c =
-    let a = c .before .before .before .before .before .before .before .before .before .before .args in
-    put-full (fieldAt (a .head .now) (a .places .now) (a .k) .value ++ 0 ∷ []) (rw (c .enum-told .given .1, c .before .before .before .before .before .before .field-name .ensures .0) at (c .before .before .before .before .put-http-name .ensures))
-
-field-value-requires : tie.Need-field-value-requires
-field-value-requires c κs = search needs
-
-put-value-requires : tie.Need-put-value-requires
-put-value-requires c κs = put-within (first (c .before .before))
-
-same-length-2 : tie.Need-same-length-2
-same-length-2 c = search needs
-
-returns-2 : tie.Need-returns-2
-returns-2 c = put-then (first (c .before .before .before .before .before)) (rw (c .before .before .before .before .field-value .ensures .0) at (c .before .before .put-value .ensures))
+    and-then (named (c .before .before .before .before .before)) (simp (length-append, length-map) (omega (arith, room (c .before .before .before .before .before .before .before .before .before .before .before .before .before)))) _ _ _
+    (rw (c .before .before .before .before .field-value .ensures .0) at (c .before .before .put-value .ensures))
 
 pub put-alone-spec : {M : Type 1} → statement M
 put-alone-spec =
@@ -56,11 +53,7 @@ put-alone-spec =
     (tie.spec
     field-name-requires
     put-http-name-requires
-    enum-known-p
-    enum-told
-    same-length
-    returns
     field-value-requires
     put-value-requires
-    same-length-2
-    returns-2)
+    same-length
+    returns)

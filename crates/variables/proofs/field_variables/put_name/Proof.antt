@@ -1,28 +1,21 @@
 -- `variables::field_variables::put_name` meets its contract.
 -- Assumes nothing.
 use Prim.Native.Nat.{_≤_, _+_, _-_, _<_}
-use Rattle.variables.proofs.FieldVariables.{inName, name-next, name-done}
-use Rattle.variables.proofs.field_variables.put_name.Statement.{statement}
-use Rattle.variables.proofs.field_variables.put_name.Tie as tie
-use Rattle.variables.specs.Put.{no-room}
-use Rattle.octets.specs.Copy.{over}
-use borrow.Author.Needs.{needs}
-use lib.ListN.{length, drop, length-map, length-set}
 use mathlib.Core.Path.{_≡_, refl, _∙_}
 use native.Mathlib.Nat.{add-zero}
 use native.Mathlib.Omega.{arith}
+use lib.ListN.{length, drop, length-set}
+use borrow.Author.Needs.{needs}
+use Rattle.octets.specs.Copy.{over}
+use Rattle.variables.proofs.FieldVariables.{inName, name-next, name-done}
+use Rattle.variables.proofs.field_variables.put_name.Statement.{statement}
+use Rattle.variables.proofs.field_variables.put_name.Tie as tie
 
 abbrev Inv-loop : tie.InvT-loop
 Inv-loop out₀ at name i₀ out i = (i ≤ length name) × (length out ≡ length out₀) × (over out (at + i) (inName (drop i name)) ≡ over out₀ at (inName name))
 
 abbrev μ-loop : tie.MeasureT-loop
 μ-loop out₀ at name i₀ out i = length name - i
-
-sub-if1 : tie.Need-sub-if1 Inv-loop μ-loop
-sub-if1 c = search needs
-
-returns : tie.Need-returns Inv-loop μ-loop
-returns c = no-room (simp length-map (omega arith)) refl
 
 loop-holds : tie.Need-loop-holds Inv-loop μ-loop
 loop-holds c = (search needs, refl, rw (add-zero _))
@@ -48,17 +41,17 @@ loop-less c = omega arith
 loop-again : tie.Need-loop-again Inv-loop μ-loop
 loop-again c =
     let l = c .before .before .before in
-    let room : l .before .before .before .before .args .at + l .loop .i < length (l .loop .out) = omega arith in
+    let room : l .before .before .before .args .at + l .loop .i < length (l .loop .out) = omega (arith, l .before .before .before .pre) in
     (omega arith, simp length-set (l .loop .inv .1), name-next _ _ _ _ _ (c .before .before .loop-test .taken) room (c .variable-byte .ensures) ∙ l .loop .inv .2)
 
-add-t6 : tie.Need-add-t6 Inv-loop μ-loop
-add-t6 c = search needs
+add-result : tie.Need-add-result Inv-loop μ-loop
+add-result c = search needs
 
 same-length : tie.Need-same-length Inv-loop μ-loop
 same-length c = search needs
 
-returns-2 : tie.Need-returns-2 Inv-loop μ-loop
-returns-2 c = name-done _ _ _ _ _ (omega arith) (omega arith) (c .before .loop .inv .2)
+returns : tie.Need-returns Inv-loop μ-loop
+returns c = name-done _ _ _ _ _ (omega arith) (c .before .loop .inv .2)
 
 pub put-name-spec : {M : Type 1} → statement M
 put-name-spec =
@@ -66,8 +59,6 @@ put-name-spec =
     (tie.spec
     Inv-loop
     μ-loop
-    sub-if1
-    returns
     loop-holds
     shared-slice-read-variable-byte
     variable-byte-requires
@@ -76,6 +67,6 @@ put-name-spec =
     add-i
     loop-less
     loop-again
-    add-t6
+    add-result
     same-length
-    returns-2)
+    returns)

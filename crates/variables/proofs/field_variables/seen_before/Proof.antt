@@ -29,7 +29,7 @@ seen c = same-turned _ _ ∙ sym (c .has-name .ensures ∙ rw (c .before .before
 field-name-requires : tie.Need-field-name-requires Inv-loop μ-loop
 field-name-requires c κs =
     let s = c .before .before in
-    (omega (arith, s .pre .0, s .pre .1), s .pre .2 _ (s .pre .0))
+    (omega (arith, s .pre .0, s .pre .1 .0), s .pre .1 .1 _ (s .pre .0))
 
 loop-holds : tie.Need-loop-holds Inv-loop μ-loop
 loop-holds c = (search needs, refl)
@@ -40,7 +40,7 @@ sub-j c = search needs
 has-name-requires : tie.Need-has-name-requires Inv-loop μ-loop
 has-name-requires c κs =
     let s = c .before .before .before .before .before in
-    (omega (arith, s .pre .0, s .pre .1), s .pre .2 _ (omega (arith, s .pre .0)))
+    (omega (arith, s .pre .0, s .pre .1 .0), s .pre .1 .1 _ (omega (arith, s .pre .0)))
 
 returns : tie.Need-returns Inv-loop μ-loop
 returns c =

@@ -1,50 +1,39 @@
 -- `variables::put::put_variable` meets its contract.
 -- Assumes nothing.
-use mathlib.Core.List.{[], _∷_, _++_}
+use native.Mathlib.Omega.{arith}
+use lib.ListN.{length-append}
 use borrow.Author.Needs.{needs}
-use Rattle.variables.proofs.Puts.{put-then, put-full, put-within}
+use Rattle.octets.proofs.Copies.{and-then}
 use Rattle.variables.proofs.put.put_variable.Statement.{statement}
 use Rattle.variables.proofs.put.put_variable.Tie as tie
-use Rattle.variables.specs.Put.{PutDone}
-use Rattle.variables.specs.declared.put.Put.the-variants.{At}
 
--- the name, where the pattern matched
-first : (c : tie.After-known-told) → PutDone (c .before .before .before .before .before .before .before .before .before .before .args .out .now) (c .before .before .before .before .before .before .before .before .before .before .args .at) (c .before .before .before .before .before .before .before .before .before .before .args .name .now ++ 0 ∷ []) (c .before .before .before .before .before .put-ended .last .0) (At (c .before .p .given .0 .0))
-first c = rw (c .before .p .given .1) at (c .before .before .before .before .before .put-ended .ensures)
+put-requires : tie.Need-put-requires
+put-requires c κs = omega (arith, simp length-append at (c .before .before .before .before .pre))
 
-put-ended-requires : tie.Need-put-ended-requires
-put-ended-requires c κs = search needs
+slice-aggregate-put : tie.Need-slice-aggregate-put
+slice-aggregate-put c = search needs
 
-enum-known-p : tie.Need-enum-known-p
-enum-known-p c = search needs
+put-requires-2 : tie.Need-put-requires-2
+put-requires-2 c κs = omega (arith, c .before .before .before .before .put .ensures .ends, simp length-append at (c .before .before .before .before .before .before .before .before .before .pre))
 
-enum-told : tie.Need-enum-told
-enum-told c = search needs
+put-value-requires : tie.Need-put-value-requires
+put-value-requires c κs = omega (arith, c .before .before .before .put2 .ensures .ends, c .before .before .before .before .before .before .before .before .put .ensures .ends, simp length-append at (c .before .before .before .before .before .before .before .before .before .before .before .before .before .pre))
 
 same-length : tie.Need-same-length
 same-length c = search needs
 
 returns : tie.Need-returns
-returns c = put-full _ (rw (c .enum-told .given .1) at (c .before .before .before .before .put-ended .ensures))
-
-put-ended-requires-2 : tie.Need-put-ended-requires-2
-put-ended-requires-2 c κs = put-within (first (c .before))
-
-same-length-2 : tie.Need-same-length-2
-same-length-2 c = search needs
-
-returns-2 : tie.Need-returns-2
-returns-2 c = put-then (first (c .before .before .before .before)) (c .before .before .put-ended2 .ensures)
+returns c =
+    let room = simp length-append at (c .before .before .before .before .before .before .before .before .before .before .before .before .before .before .before .before .pre) in
+    and-then (and-then (c .before .before .before .before .before .before .before .before .before .before .before .put .ensures) (omega (arith, room)) _ _ _ (c .before .before .before .before .before .before .put2 .ensures)) (simp length-append (omega (arith, room))) _ _ _ (c .before .before .put-value .ensures)
 
 pub put-variable-spec : {M : Type 1} → statement M
 put-variable-spec =
     tie.close
     (tie.spec
-    put-ended-requires
-    enum-known-p
-    enum-told
+    put-requires
+    slice-aggregate-put
+    put-requires-2
+    put-value-requires
     same-length
-    returns
-    put-ended-requires-2
-    same-length-2
-    returns-2)
+    returns)

@@ -1,12 +1,12 @@
--- `variables::block::query` meets its contract.
+-- `variables::fixed_variables::query` meets its contract.
 -- Assumes nothing.
 use mathlib.Core.Path.{refl}
 use native.Mathlib.Omega.{arith}
 use lib.ListN.{length-take}
-use Rattle.variables.proofs.Blocks.{query-none, query-some}
+use Rattle.variables.proofs.FixedVariables.{query-none, query-some}
 use borrow.Author.Needs.{needs}
-use Rattle.variables.proofs.block.query.Statement.{statement}
-use Rattle.variables.proofs.block.query.Tie as tie
+use Rattle.variables.proofs.fixed_variables.query.Statement.{statement}
+use Rattle.variables.proofs.fixed_variables.query.Tie as tie
 
 add-end : tie.Need-add-end
 add-end c = search needs
