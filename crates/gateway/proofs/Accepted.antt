@@ -1,7 +1,7 @@
 -- What is written for an accepted request: its meaning's variables and body, a request of the SCGI text.
 -- Assumes nothing.
 use Prim.Native.Nat.{ℕ, _-_, _≤_}
-use mathlib.Core.Path.{_≡_, refl}
+use mathlib.Core.Path.{_≡_, refl, ap}
 use mathlib.Core.List.{List}
 use native.Mathlib.Omega.{arith}
 use lib.ListN.{length, take, length-take}
@@ -12,19 +12,22 @@ use Rattle.octets.proofs.Alls.{all-after}
 use Rattle.octets.proofs.Decimals.{ten-digits}
 use Rattle.headers.specs.Block.{here, later}
 use Rattle.scgi.specs.Grammar.{first, IsRequest}
+use Rattle.http.proofs.Claims.{heads-hold}
 use Rattle.targets.specs.Target.{Target, targetOf}
 use Rattle.lent.specs.Mounts.{Mount, Route, mountFor, routeOf}
-use Rattle.lent.specs.Lent.{Lent}
+use Rattle.lent.specs.Lent.{Lent, lentOf}
 use Rattle.lent.specs.Claims.{Among, here as first-mount, later as later-mount, ProperLent}
-use Rattle.lent.proofs.Claims.{mount-is-longest}
+use Rattle.lent.proofs.Claims.{lent-is-proper, mount-is-longest}
 use Rattle.request.specs.Claims.{Obeys}
 use Rattle.request.proofs.Claims.{requests-obey}
 use Rattle.variables.specs.Meaning.{Meaning, meaningOf}
 use Rattle.variables.specs.Variables.{fixed, variables}
 use Rattle.variables.specs.Claims.{ProperMeaning, ProperRoute}
 use Rattle.variables.proofs.Claims.{meaning-is-proper, variables-are-headers}
-use Rattle.gateway.specs.Step.{bytesOf, Forward, meaningAt, forwardOf}
-use Rattle.gateway.proofs.Links.{BodyLinks, body-links, WrittenLinks, Links, links}
+use Rattle.gateway.specs.Step.{bytesOf, Forward, forwardBy, meaningAt, forwardOf}
+use Rattle.gateway.specs.Claims.{Small}
+use Rattle.gateway.proofs.Links.{BodyLinks, body-links, Links, links}
+use Rattle.gateway.proofs.Fits.{variables-fit}
 
 -- what holds of what is written for an accepted request: its bytes, and its pool
 pub record Account (k : Lent) (http : List ℕ) (f : Forward) : Type 0 where
@@ -44,7 +47,11 @@ pub one-of : {P : Mount → Type 0} {m : Mount} {ms : List Mount} → Among m ms
 one-of first-mount (p & ps) = p
 one-of (later-mount a) (p & ps) = one-of a ps
 
-module _ (k : Lent) (sound : ProperLent k) (http : List ℕ) (f : Forward) (l : Links k http f) where
+module _
+    (facts site mounts : List ℕ) (k : Lent) (is : lentOf facts site mounts ≡ gives k) (http : List ℕ) (f : Forward) (l : Links k http f) where
+  sound : ProperLent k
+  sound = lent-is-proper facts site mounts k is
+
   abbrev meaning : Meaning
   meaning = meaningOf (l .q .first) (l .q .fields) (l .b .body)
 
@@ -75,11 +82,16 @@ module _ (k : Lent) (sound : ProperLent k) (http : List ℕ) (f : Forward) (l : 
   wins = rw (← o .path, l .mount)
 
   -- the links speak of the path that was kept with the request
-  written : WrittenLinks (k .settings) (l .m) route meaning (l .b .used) f
+  written : f ≡ forwardBy (l .m) (bytesOf (k .settings) route meaning) (l .b .used)
   written = rw (o .path) at (l .written)
 
   body-limit : length (meaning .body) ≤ 1048576
   body-limit = rw (body-is .is) (simp length-take (omega (arith, body-is .limit)))
+
+  fits : Small (variables (k .settings) route meaning)
+  fits =
+      let limit : length (take (l .h - 4) http) ≤ 8188 = simp length-take (omega (arith, heads-hold .within http (l .h) (l .head) .limit)) in
+      rw (o .path) at (variables-fit facts site mounts (take (l .h - 4) http) (l .b .body) k (l .q) (l .m) is limit (l .request) (rw (l .mount)) body-limit)
 
   request : IsRequest (variables (k .settings) route meaning) (meaning .body)
   unfolding fixed
@@ -90,8 +102,8 @@ module _ (k : Lent) (sound : ProperLent k) (http : List ℕ) (f : Forward) (l : 
         differ = v .differ;
         states = first refl plain (ten-digits (length (meaning .body)) (omega (arith, body-limit)));
         scgi = later here;
-        block-limit = written .limit;
-        header-limit = omega (arith, v .few);
+        block-limit = omega (arith, fits .bytes);
+        header-limit = omega (arith, fits .count);
         body-limit = body-limit;
       }
 
@@ -104,11 +116,13 @@ module _ (k : Lent) (sound : ProperLent k) (http : List ℕ) (f : Forward) (l : 
         means = means;
         is-target = o .target-read;
         wins = wins;
-        pool = written .pool;
+        pool = (ap (λ (x : Forward). x .poolStart) written, ap (λ (x : Forward). x .poolLength) written);
         proper = proper;
         request = request;
-        bytes = written .scgi;
+        bytes = ap (λ (x : Forward). x .scgi) written;
       }
 
-pub account : (k : Lent) → ProperLent k → (http : List ℕ) (f : Forward) → forwardOf (gives k) http ≡ gives f → Account k http f
-account k sound http f e = account-at k sound http f (links k http f e)
+pub account :
+    (facts site mounts : List ℕ) (k : Lent) → lentOf facts site mounts ≡ gives k → (http : List ℕ) (f : Forward) → forwardOf (gives k) http ≡ gives f
+    → Account k http f
+account facts site mounts k is http f e = account-at facts site mounts k is http f (links k http f e)

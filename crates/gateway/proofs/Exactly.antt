@@ -14,7 +14,7 @@ use Rattle.targets.specs.Target.{Target, targetOf}
 use Rattle.lent.specs.Mounts.{Mount, Route, placed, mountOf, mountFor, routeOf}
 use Rattle.lent.specs.Lent.{Lent, lentOf}
 use Rattle.lent.specs.Claims.{headerAt, Among as MountAmong, here as first-mount, later as later-mount}
-use Rattle.lent.proofs.Claims.{lent-is-proper, lent-mounts, mount-is-longest, pools-are-values}
+use Rattle.lent.proofs.Claims.{lent-mounts, mount-is-longest, pools-are-values}
 use Rattle.variables.specs.Meaning.{Meaning}
 use Rattle.variables.specs.Variables.{variables}
 use Rattle.gateway.specs.Step.{bytesOf, Forward, meaningAt, forwardOf}
@@ -48,7 +48,7 @@ module _ (k : Lent) (http http′ : List ℕ) (f f′ : Forward) (a : Account k 
 told-of : (facts site mounts http : List ℕ) (k : Lent) → lentOf facts site mounts ≡ gives k → (f : Forward) → forwardOf (lentOf facts site mounts) http ≡ gives f → Account k http f
 told-of facts site mounts http k z f e =
     let d : forwardOf (gives k) http ≡ gives f = rw z at e in
-    account k (lent-is-proper facts site mounts k z) http f d
+    account facts site mounts k z http f d
 
 pub bytes-exactly-meaning : BytesExactlyMeaning
 bytes-exactly-meaning facts site mounts http http′ room room′ f f′ e e′ =

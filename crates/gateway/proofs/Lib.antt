@@ -1,9 +1,9 @@
 pub mod Links
+pub mod Fits
 pub mod Accepted
 pub mod Exactly
 pub mod Pipelines
 pub mod Numbers
 pub mod Worked
-pub mod Fits
 pub mod StepParts
 pub mod Claims

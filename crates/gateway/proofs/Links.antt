@@ -1,7 +1,7 @@
 -- What an accepted request says of the links of the step's chain.
 -- Assumes nothing.
 use Prim.Native.Nat.{ℕ, _+_, _-_, _≤_}
-use mathlib.Core.Path.{_≡_, refl, ap, sym}
+use mathlib.Core.Path.{_≡_, refl, sym}
 use mathlib.Core.List.{List}
 use mathlib.Core.Option.{some}
 use lib.Dec.{leb}
@@ -9,17 +9,14 @@ use lib.ListN.{length, take, drop}
 use borrow.Author.Tests.{leb-true}
 use Rattle.octets.specs.Outcome.{Outcome, gives, need}
 use Rattle.octets.proofs.Outcomes.{need-gives, given-gives, gives-once, then-gives}
-use Rattle.headers.specs.Block.{printed}
 use Rattle.http.specs.Head.{headOf}
-use Rattle.lent.specs.Settings.{Settings}
-use Rattle.lent.specs.Mounts.{Mount, Route, mountOf, mountFor, routeOf}
+use Rattle.lent.specs.Mounts.{Mount, mountOf, mountFor, routeOf}
 use Rattle.lent.specs.Lent.{Lent}
-use Rattle.variables.specs.Meaning.{Meaning, meaningOf}
-use Rattle.variables.specs.Variables.{variables}
+use Rattle.variables.specs.Meaning.{meaningOf}
 use Rattle.gateway.specs.Claims.{RoomIsLast}
 use Rattle.request.specs.Request.{Request, requestOf}
 use Rattle.gateway.specs.Body.{Body, bodyOf}
-use Rattle.gateway.specs.Step.{bytesOf, Forward, writtenFor, forwardOf, stepWith}
+use Rattle.gateway.specs.Step.{bytesOf, Forward, forwardBy, forwardOf, stepWith}
 
 -- of a body
 pub record BodyLinks (http : List ℕ) (h n : ℕ) (b : Body) : Type 0 where
@@ -34,25 +31,6 @@ body-links http h n b e =
     let d = need-gives (leb (h + n) (length http)) 1 _ b (c .1) in
     record { limit = leb-true n 1048576 (c .0); there = leb-true (h + n) (length http) (d .0); is = sym (gives-once _ b (d .1)) }
 
--- of what is written
-pub record WrittenLinks (s : Settings) (k : Mount) (r : Route) (m : Meaning) (used : ℕ) (f : Forward) : Type 0 where
-  pub limit : length (printed (variables s r m)) ≤ 16384
-  pub scgi : f .scgi ≡ bytesOf s r m
-  pub pool : (f .poolStart ≡ k .poolStart) × (f .poolLength ≡ k .poolLength)
-  pub used-is : f .used ≡ used
-
-pub written-links : (s : Settings) (k : Mount) (r : Route) (m : Meaning) (used : ℕ) (f : Forward) → writtenFor s k r m used ≡ gives f → WrittenLinks s k r m used f
-unfolding writtenFor
-written-links s k r m used f e =
-    let c = need-gives (leb (length (printed (variables s r m))) 16384) 22 _ f e in
-    let z : record { scgi = bytesOf s r m; poolStart = k .poolStart; poolLength = k .poolLength; used = used } ≡ f = gives-once _ f (c .1) in
-    record {
-      limit = leb-true _ 16384 (c .0);
-      scgi = ap (λ (x : Forward). x .scgi) (sym z);
-      pool = (ap (λ (x : Forward). x .poolStart) (sym z), ap (λ (x : Forward). x .poolLength) (sym z));
-      used-is = ap (λ (x : Forward). x .used) (sym z);
-    }
-
 -- of the chain, where k is what is lent
 pub record Links (k : Lent) (http : List ℕ) (f : Forward) : Type 0 where
   pub h : ℕ
@@ -63,7 +41,7 @@ pub record Links (k : Lent) (http : List ℕ) (f : Forward) : Type 0 where
   pub request : requestOf (take (h - 4) http) ≡ gives q
   pub mount : mountOf (k .mounts) (q .path) ≡ some m
   pub body : bodyOf http h (q .bodyLength) ≡ gives b
-  pub written : WrittenLinks (k .settings) m (routeOf m (q .path)) (meaningOf (q .first) (q .fields) (b .body)) (b .used) f
+  pub written : f ≡ forwardBy m (bytesOf (k .settings) (routeOf m (q .path)) (meaningOf (q .first) (q .fields) (b .body))) (b .used)
 
 pub links : (k : Lent) (http : List ℕ) (f : Forward) → forwardOf (gives k) http ≡ gives f → Links k http f
 unfolding forwardOf
@@ -82,8 +60,7 @@ links k http f e =
       request = d .first;
       mount = given-gives (mountOf (k .mounts) (q .path)) 19 (g .it) (g .first);
       body = i .first;
-      written =
-          written-links (k .settings) (g .it) (routeOf (g .it) (q .path)) (meaningOf (q .first) (q .fields) (i .it .body)) (i .it .used) f (i .next);
+      written = sym (gives-once _ f (i .next));
     }
 
 -- what is lent where a request is accepted

@@ -9,20 +9,16 @@ use Rattle.octets.specs.Outcome.{Outcome, refused, gives}
 use Rattle.octets.specs.Kinds.{oneOf}
 use Rattle.octets.specs.Scan.{allOf}
 use Rattle.octets.proofs.Refusals.{Refuses, with-number, not-refused, number-of, refuses-within, refuses-then, refuses-need, refuses-given}
-use Rattle.headers.specs.Block.{printed}
 use Rattle.http.specs.Head.{headOf}
 use Rattle.http.proofs.Claims as Http
-use Rattle.lent.specs.Settings.{Settings}
-use Rattle.lent.specs.Mounts.{Mount, Route, mountOf, routeOf}
+use Rattle.lent.specs.Mounts.{mountOf}
 use Rattle.lent.specs.Lent.{Lent, lentOf}
 use Rattle.lent.proofs.Claims.{lent-number}
-use Rattle.variables.specs.Meaning.{Meaning, meaningOf}
-use Rattle.variables.specs.Variables.{variables}
 use Rattle.request.specs.Request.{requestOf}
 use Rattle.request.specs.Claims.{requestNumbers}
 use Rattle.request.proofs.Claims as Request
 use Rattle.gateway.specs.Body.{bodyOf}
-use Rattle.gateway.specs.Step.{writtenFor, forwardOf, stepWith}
+use Rattle.gateway.specs.Step.{forwardOf, stepWith}
 use Rattle.gateway.specs.Claims.{stepNumbers, NumbersHold}
 
 head-numbers : (http : List ℕ) → Refuses stepNumbers (headOf http)
@@ -36,10 +32,6 @@ request-numbers head = refuses-within requestNumbers refl (requestOf head) (Requ
 body-numbers : (http : List ℕ) (h n : ℕ) → Refuses stepNumbers (bodyOf http h n)
 unfolding bodyOf
 body-numbers http h n = refuses-need (leb n 1048576) 9 refl (refuses-need (leb (h + n) (length http)) 1 refl not-refused)
-
-written-numbers : (s : Settings) (k : Mount) (r : Route) (m : Meaning) (used : ℕ) → Refuses stepNumbers (writtenFor s k r m used)
-unfolding writtenFor
-written-numbers s k r m used = refuses-need (leb (length (printed (variables s r m))) 16384) 22 refl not-refused
 
 lent-numbers : (facts site mounts : List ℕ) → Refuses stepNumbers (lentOf facts site mounts)
 lent-numbers facts site mounts = by (lentOf facts site mounts) refl
@@ -56,7 +48,7 @@ forward-numbers lent number http =
     (λ h. refuses-then (request-numbers (take (h - 4) http))
     (λ q. refuses-then (refuses-given (mountOf (k .mounts) (q .path)) 19 refl)
     (λ m. refuses-then (body-numbers http h (q .bodyLength))
-    (λ b. written-numbers (k .settings) m (routeOf m (q .path)) (meaningOf (q .first) (q .fields) (b .body)) (b .used))))))
+    (λ b. not-refused)))))
 
 pub numbers-hold : NumbersHold
 unfolding stepWith

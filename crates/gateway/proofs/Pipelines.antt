@@ -56,7 +56,7 @@ within lent s f e =
     let z = lent-of lent s f e in
     let l = links (z .k) s f (rw (z .is) at e) in
     let b = body-links s (l .h) (l .q .bodyLength) (l .b) (l .body) in
-    let u : f .used ≡ l .h + l .q .bodyLength = l .written .used-is ∙ ap (λ (x : Body). x .used) (b .is) in
+    let u : f .used ≡ l .h + l .q .bodyLength = ap (λ (x : Forward). x .used) (l .written) ∙ ap (λ (x : Body). x .used) (b .is) in
     let w = heads-hold .within s (l .h) (l .head) in
     (omega (arith, u, w .last), omega (arith, u, b .there))
 

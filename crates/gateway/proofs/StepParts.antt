@@ -9,7 +9,6 @@ use native.Mathlib.Omega.{arith}
 use lib.Dec.{leb}
 use lib.ListN.{length, take, drop, length-append}
 use lib.Seq.{length-take-le, take-append-seam}
-use borrow.Author.Tests.{le-leb}
 use Rattle.octets.specs.Outcome.{Outcome, refused, gives, then, need, given}
 use Rattle.octets.proofs.Outcomes.{given-gives, gives-once, then-gives}
 use Rattle.headers.specs.Block.{parsed, printed, wellFormed}
@@ -33,7 +32,7 @@ use Rattle.request.specs.RequestRead.{lineIn, pathIn, fieldsIn}
 use Rattle.request.specs.Request.{Request, requestOf}
 use Rattle.gateway.specs.Body.{Body, bodyOf, endOf, bodyOutcome}
 use Rattle.gateway.specs.declared.body.Body.the-variants.{End, Refused as BodyRefused}
-use Rattle.gateway.specs.Step.{bytesOf, Forward, writtenFor, forwardOf, stepWith, stepOf}
+use Rattle.gateway.specs.Step.{bytesOf, Forward, forwardBy, forwardOf, stepWith, stepOf}
 use Rattle.gateway.specs.Stepping.{answerOf, steppingOutcome, Stepped, steppingBy}
 use Rattle.gateway.specs.declared.step.Stepping.the-variants.{Refused}
 use Rattle.gateway.proofs.Links.{body-links}
@@ -76,19 +75,11 @@ module _ (facts site mounts http : List ℕ) (room : ℕ) where
           module _ (b : Body) (t : bodyOf http h (q .bodyLength) ≡ gives b) where
             -- what is written
             abbrev forward : Forward
-            forward =
-                record {
-                  scgi = bytesOf (l .settings) (routeOf m (q .path)) (meaningOf (q .first) (q .fields) (b .body));
-                  poolStart = m .poolStart;
-                  poolLength = m .poolLength;
-                  used = b .used;
-                }
+            forward = forwardBy m (bytesOf (l .settings) (routeOf m (q .path)) (meaningOf (q .first) (q .fields) (b .body))) (b .used)
 
-            pub step-written :
-                length (printed (variables (l .settings) (routeOf m (q .path)) (meaningOf (q .first) (q .fields) (b .body)))) ≤ 16384
-                → o ≡ need (leb (length (forward .scgi)) room) 21 (gives forward)
-            unfolding stepWith forwardOf writtenFor
-            step-written limit = rw (e, f, r, w, t, le-leb _ 16384 limit)
+            pub step-written : o ≡ need (leb (length (forward .scgi)) room) 21 (gives forward)
+            unfolding stepWith forwardOf
+            step-written = rw (e, f, r, w, t)
 
 -- The bytes that were written are those of the step.
 

@@ -32,7 +32,7 @@ use Rattle.request.specs.Named.{valuesOf}
 use Rattle.variables.specs.Variables.{fixed}
 use Rattle.request.specs.Request.{hostRight, contentOf, rulesOf, requestOf}
 use Rattle.gateway.specs.Body.{bodyOf}
-use Rattle.gateway.specs.Step.{writtenFor, forwardOf, stepWith}
+use Rattle.gateway.specs.Step.{forwardOf, stepWith}
 use Rattle.gateway.specs.Worked.{step, forward, answerTo, Case, cases}
 use Rattle.gateway.specs.Claims.{WorkedCases}
 
@@ -104,7 +104,7 @@ further =
     ∷ []
 
 pub further-right : map (λ c. answerTo (c .asked)) further ≡ map (λ c. c .answer) further
-unfolding further sameBytes isIn numberFrom digitsIn isDigit printed parted paired different stepWith lentOf settingsOf allMounts placed begins ends mountOf valueIn forwardOf writtenFor headOf endFrom linesFrom requestOf requestLineOf versionOf isMethod isVersion isToken isLetter isHex isTarget isName isValue isBlank run allOf count kept escapesRight hexValue decodedFrom pathOf queryOf rawRight noDots segmentsRight decodedRight targetOf fieldOf eachField lowerOf upperOf rulesOf hostRight contentOf valuesOf bodyOf fixed passed separator addedBy grouped
+unfolding further sameBytes isIn numberFrom digitsIn isDigit printed parted paired different stepWith lentOf settingsOf allMounts placed begins ends mountOf valueIn forwardOf headOf endFrom linesFrom requestOf requestLineOf versionOf isMethod isVersion isToken isLetter isHex isTarget isName isValue isBlank run allOf count kept escapesRight hexValue decodedFrom pathOf queryOf rawRight noDots segmentsRight decodedRight targetOf fieldOf eachField lowerOf upperOf rulesOf hostRight contentOf valuesOf bodyOf fixed passed separator addedBy grouped
 further-right = refl
 
 -- a field by its name and its value

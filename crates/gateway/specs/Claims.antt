@@ -95,16 +95,16 @@ PipelineCut = (facts site mounts : List ℕ) → SpoolCut (usedBy (lentOf facts 
 abbrev pub PipelineGoesOn : Type 0
 PipelineGoesOn = (facts site mounts : List ℕ) → SpoolGoesOn (usedBy (lentOf facts site mounts))
 
--- the room is looked at last, and 21 is all that hangs on it: "22; 21"
+-- the room is looked at last, and 21 is all that hangs on it: "1 for a short body; .. 21"
 abbrev pub RoomIsLast : Type 0
 RoomIsLast =
     (facts site mounts http : List ℕ) (room : ℕ)
     → stepOf facts site mounts http room
     ≡ then (forwardOf (lentOf facts site mounts) http) (λ f. need (leb (length (f .scgi)) room) 21 (gives f))
 
--- the step's numbers: "20; then 11 or 1; 12; 13; 14; 15; 16; 17; 18; 19; 9; 1 for a short body; 22; 21"
+-- the step's numbers: "20; then 11 or 1; 12; 13; 14; 15; 16; 17; 18; 19; 9; 1 for a short body; .. 21"; 02 §10 takes out 22
 abbrev pub stepNumbers : List ℕ
-stepNumbers = 20 ∷ 11 ∷ 1 ∷ 12 ∷ 13 ∷ 14 ∷ 15 ∷ 16 ∷ 17 ∷ 18 ∷ 19 ∷ 9 ∷ 22 ∷ 21 ∷ []
+stepNumbers = 20 ∷ 11 ∷ 1 ∷ 12 ∷ 13 ∷ 14 ∷ 15 ∷ 16 ∷ 17 ∷ 18 ∷ 19 ∷ 9 ∷ 21 ∷ []
 
 -- no other number is given: "Every refusal returns its number and nothing else"
 abbrev pub NumbersHold : Type 0

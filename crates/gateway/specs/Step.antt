@@ -5,7 +5,6 @@ use mathlib.Core.List.{List}
 use lib.Dec.{leb}
 use lib.ListN.{length, take}
 use Rattle.octets.specs.Outcome.{Outcome, gives, then, need}
-use Rattle.headers.specs.Block.{printed}
 use Rattle.scgi.specs.Grammar.{encoded}
 use Rattle.http.specs.Head.{headOf}
 use Rattle.lent.specs.Settings.{Settings}
@@ -35,13 +34,12 @@ pub record Forward : Type 0 where
   pub poolLength : ℕ
   pub used : ℕ
 
--- 22: "variables of a gateway request above 16,384 bytes"
-unfoldable pub writtenFor : Settings → Mount → Route → Meaning → ℕ → Outcome Forward
-writtenFor s m r meaning used =
-    need (leb (length (printed (variables s r meaning))) 16384) 22
-    (gives (record { scgi = bytesOf s r meaning; poolStart = m .poolStart; poolLength = m .poolLength; used = used }))
+-- .. for these bytes, under the mount m
+abbrev pub forwardBy : Mount → List ℕ → ℕ → Forward
+forwardBy m scgi used = record { scgi = scgi; poolStart = m .poolStart; poolLength = m .poolLength; used = used }
 
--- "Order: 20; then 11 or 1; 12; 13; 14; 15; 16; 17; 18; 19; 9; 1 for a short body; 22": what is to be written, whatever the room.
+-- "Order: 20; then 11 or 1; 12; 13; 14; 15; 16; 17; 18; 19; 9; 1 for a short body": what is to be written, whatever the room. 02 §10: no
+-- 22, since the variables of every accepted request fit (`VariablesFit`); "keep the number unused"
 unfoldable pub forwardOf : Outcome Lent → List ℕ → Outcome Forward
 forwardOf lent http =
     then lent (λ l.
@@ -50,7 +48,7 @@ forwardOf lent http =
     then (mountFor (l .mounts) (q .path)) (λ m.
     then (bodyOf http h (q .bodyLength)) (λ b.
     let meaning = meaningOf (q .first) (q .fields) (b .body) in
-    writtenFor (l .settings) m (routeOf m (q .path)) meaning (b .used))))))
+    gives (forwardBy m (bytesOf (l .settings) (routeOf m (q .path)) meaning) (b .used)))))))
 
 -- ".. 21": "output shorter than the bytes to be written", for an output of `room` bytes
 unfoldable pub stepWith : Outcome Lent → List ℕ → ℕ → Outcome Forward

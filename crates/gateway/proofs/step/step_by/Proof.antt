@@ -33,7 +33,7 @@ use Rattle.variables.specs.Meaning.{meaningOf}
 use Rattle.variables.specs.Variables.{variables}
 use Rattle.variables.specs.declared.sources.Sources.{Sources}
 use Rattle.gateway.specs.Body.{Body, bodyOutcome}
-use Rattle.gateway.specs.Step.{Forward, stepOf}
+use Rattle.gateway.specs.Step.{Forward, forwardBy, stepOf}
 use Rattle.gateway.specs.Write.{blockFor, RequestFits}
 use Rattle.gateway.specs.Stepping.{Stepped, steppingBy, PathFits}
 use Rattle.gateway.specs.declared.step.Stepping.the-variants.{Refused}
@@ -385,9 +385,8 @@ made c =
     let r = read₄ m in
     let l = lent₂ (head₃ r) in
     let b : Body = record { body = body k; used = used k } in
-    let f : Forward = record { scgi = netstring (printing k) ++ body k; poolStart = chosen m .poolStart; poolLength = chosen m .poolLength; used = used k } in
-    let limit = rw (is-block k) at (fits k .bound) in
-    rw (step-written _ _ _ _ _ (lending l) (lent l .lent) _ (headed (head₃ r)) (request r) (sym (read r .answer)) (chosen m) (mount m .wins) b (ended k .is) (omega (arith, limit, fits k .limit)))
+    let f : Forward = forwardBy (chosen m) (netstring (printing k) ++ body k) (used k) in
+    rw (step-written _ _ _ _ _ (lending l) (lent l .lent) _ (headed (head₃ r)) (request r) (sym (read r .answer)) (chosen m) (mount m .wins) b (ended k .is))
     (answered-by f (start₅ k .args .out .now) _ _ (rw (is-block k) at (rw (parted k) at (c .before .before .before .write-request .ensures))))
 
 -- the pool's place and the bytes used that the answer names
