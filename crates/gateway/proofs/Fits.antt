@@ -1,6 +1,6 @@
 -- The variables of every accepted request stay within the limits of a block.
 -- Assumes nothing.
-use Prim.Native.Nat.{ℕ, _+_, _*_, _≤_}
+use Prim.Native.Nat.{ℕ, _+_, _≤_}
 use mathlib.Core.Path.{_≡_, ap}
 use mathlib.Core.List.{List}
 use native.Mathlib.Omega.{arith}
@@ -15,6 +15,7 @@ use Rattle.request.specs.Request.{Request, requestOf}
 use Rattle.request.proofs.Claims.{requests-obey}
 use Rattle.variables.specs.Meaning.{meaningOf}
 use Rattle.variables.specs.Variables.{variables}
+use Rattle.variables.specs.Claims.{boundOf}
 use Rattle.variables.proofs.Claims.{meaning-is-proper, variables-few, variables-take}
 use Rattle.gateway.specs.Claims.{VariablesFit}
 
@@ -27,9 +28,8 @@ module _
   abbrev hs : List Header
   hs = variables (l .settings) r (meaningOf (q .first) (q .fields) body)
 
-  -- by the lengths that are at hand before they are written
   abbrev pub bound : ℕ
-  bound = 138 + (length facts + length site) + length head + length (q .first .target) + 4 * length (q .fields)
+  bound = boundOf (length facts + length site) (length head) (length (q .first .target)) (length (q .fields))
 
   pub bound-holds : length (printed hs) ≤ bound
   bound-holds =

@@ -33,7 +33,7 @@ use Rattle.request.specs.Request.{Request, requestOf}
 use Rattle.gateway.specs.Body.{Body, bodyOf, endOf, bodyOutcome}
 use Rattle.gateway.specs.declared.body.Body.the-variants.{End, Refused as BodyRefused}
 use Rattle.gateway.specs.Step.{bytesOf, Forward, forwardBy, forwardOf, stepWith, stepOf}
-use Rattle.gateway.specs.Stepping.{answerOf, steppingOutcome, Stepped, steppingBy}
+use Rattle.gateway.specs.Stepping.{Stepped, steppingBy}
 use Rattle.gateway.specs.declared.step.Stepping.the-variants.{Refused}
 use Rattle.gateway.proofs.Links.{body-links}
 

@@ -1,12 +1,13 @@
 -- For the code that writes a request's SCGI bytes: what it must know, and what it leaves.
 -- Assumes nothing.
-use Prim.Native.Nat.{ℕ, _+_, _*_, _≤_}
+use Prim.Native.Nat.{ℕ, _+_, _≤_}
 use mathlib.Core.List.{List, _++_}
 use lib.ListN.{length}
 use Rattle.scgi.specs.Grammar.{netstring}
 use Rattle.scgi.specs.Write.{inRoom, WrittenOut}
 use Rattle.scgi.specs.declared.write.Writing.{Writing}
 use Rattle.variables.specs.Block.{blockAt, PlacesKnown}
+use Rattle.variables.specs.Claims.{boundOf}
 use Rattle.variables.specs.declared.sources.Sources.{Sources}
 
 -- The head and the body of a request, the list of its fields' places and the buffer with its decoded path; and where the values stand.
@@ -17,7 +18,7 @@ module _ (facts site head places path body : List ℕ) (k : Sources) where
 
   -- how many they are at most, by lengths that are at hand before they are written
   abbrev pub boundFor : ℕ
-  boundFor = 138 + (length facts + length site) + length head + k .line .len + 4 * k .fields .count
+  boundFor = boundOf (length facts + length site) (length head) (k .line .len) (k .fields .count)
 
   pub record RequestFits : Type 0 where
     pub known : PlacesKnown facts site head places path k

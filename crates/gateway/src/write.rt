@@ -24,7 +24,8 @@ pub fn write_request<'a>(
     let size = body.len();
     let line = k.line;
     let fields = k.fields;
-    if facts.len() + site.len() + head.len() + line.len + 4 * fields.count <= 1782 {
+    let bound = 138 + facts.len() + site.len() + head.len() + line.len + 4 * fields.count;
+    if bound <= 1920 {
         let mut short = [0u8; 1920];
         let n = put_block(facts, site, head, places, path, k, size, &mut short);
         return write_parts(&short[..n], body, out);

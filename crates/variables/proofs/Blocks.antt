@@ -1,7 +1,7 @@
 -- The groups in which a block of variables is written are its variables, in their order.
 -- Assumes nothing.
 use Prim.Native.Nat.{ℕ}
-use mathlib.Core.Path.{_≡_, sym, ap, _∙_}
+use mathlib.Core.Path.{_≡_, ap, _∙_}
 use mathlib.Core.List.{List, _++_, append-assoc, map}
 use mathlib.Core.Option.{Option}
 use Rattle.headers.specs.Block.{printed}

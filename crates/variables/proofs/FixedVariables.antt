@@ -5,10 +5,10 @@ use Prim.{absurd}
 use mathlib.Core.Path.{_≡_, refl, sym, ap, _∙_}
 use mathlib.Core.Bool.{Bool, true, false}
 use mathlib.Core.List.{List, [], _∷_, _++_, append-assoc}
-use mathlib.Core.Option.{Option, none, some}
+use mathlib.Core.Option.{none, some}
 use native.Mathlib.Omega.{arith}
 use lib.ListN.{length, take, drop, length-take, length-drop, drop-of-length-le}
-use lib.Seq.{length-take-le, take-add, take-take, drop-at, drop-drop}
+use lib.Seq.{length-take-le, take-add, drop-at, drop-drop}
 use Rattle.octets.specs.Text.{bytes}
 use Rattle.octets.specs.Decimal.{decimal}
 use Rattle.octets.specs.Copy.{Wrote}

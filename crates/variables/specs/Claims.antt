@@ -76,15 +76,18 @@ VariablesAreHeaders = (s : Settings) (r : Route) (m : Meaning) → ProperSetting
 abbrev pub VariablesFew : Type 0
 VariablesFew = (s : Settings) (r : Route) (m : Meaning) → length (variables s r m) ≤ 16 + length (m .fields)
 
--- how many bytes the variables take at most, by lengths that are at hand before they are written; the names and their NULs, seven digits
--- and the version are counted in the 138, less the ten bytes of the request line that are no part of a variable; a field's variable takes
--- four bytes more than its line
+-- how many bytes the variables take at most, by lengths that are at hand before they are written: of what the settings give, the head and
+-- the target, and by the number of fields. The names and their NULs, seven digits and the version are counted in the 138, less the ten bytes
+-- of the request line that are no part of a variable; a field's variable takes four bytes more than its line
+abbrev pub boundOf : ℕ → ℕ → ℕ → ℕ → ℕ
+boundOf settings head target fields = 138 + settings + head + target + 4 * fields
+
 abbrev pub VariablesTake : Type 0
 VariablesTake =
     (s : Settings) (head body : List ℕ) (q : Request) (r : Route) → requestOf head ≡ gives q
     → length (r .scriptName) + length (r .pathInfo) ≤ length (q .path) → length body ≤ 1048576
     → length (printed (variables s r (meaningOf (q .first) (q .fields) body)))
-    ≤ 138 + settingsSize s + length head + length (q .first .target) + 4 * length (q .fields)
+    ≤ boundOf (settingsSize s) (length head) (length (q .first .target)) (length (q .fields))
 
 -- equal variables and bodies are equal meanings, under equal settings; and equal meanings have equal variables, since these are a function of the
 -- settings, the route and the meaning

@@ -31,10 +31,6 @@ lowFrom head ps n k = lowered (fieldsAt head ps k (n - k))
 abbrev pub addedAt : List ℕ → List ℕ → List ℕ → List ℕ → ℕ → List ℕ
 addedAt head ps x s j = ifThere (sameBytes (lowName head ps j) x) (s ++ fieldAt head ps j .value)
 
--- .. for a name that is not yet in lower case
-abbrev pub addedTo : List ℕ → List ℕ → List ℕ → List ℕ → ℕ → List ℕ
-addedTo head ps name s j = addedAt head ps (map lowerOf name) s j
-
 -- what the fields of n after number k add to its value
 abbrev pub addedAfter : List ℕ → List ℕ → ℕ → ℕ → List ℕ
 addedAfter head ps n k = addedBy (lowFrom head ps n (k + 1)) (lowName head ps k)

@@ -17,6 +17,13 @@ use Rattle.variables.specs.declared.sources.Sources.{Sources}
 abbrev pub queryStart : LinePlaces → ℕ
 queryStart l = l .target + min (l .path + 1) (l .len)
 
+-- what must be known of the target that it stands in
+abbrev pub QueryKnown : List ℕ → LinePlaces → Type 0
+QueryKnown head l =
+    (l .target + l .len ≤ length head) × (l .path ≤ l .len) × (queryOf (targetIn head l) ≡ drop (l .path + 1) (targetIn head l))
+
+-- the groups
+
 abbrev pub contentVariables : List ℕ → List ℕ → Sources → ℕ → List Header
 contentVariables facts head k size =
     let f = k .fields in
@@ -38,11 +45,6 @@ serverVariables facts site path k =
     present (serverRows script (valueAt facts site (s .name)) (valueAt facts site (s .port)) version (valueAt facts site (s .software)))
 
 -- what the writer of each group must know of the places
-
--- .. and who takes the query
-abbrev pub QueryKnown : List ℕ → LinePlaces → Type 0
-QueryKnown head l =
-    (l .target + l .len ≤ length head) × (l .path ≤ l .len) × (queryOf (targetIn head l) ≡ drop (l .path + 1) (targetIn head l))
 
 abbrev pub ContentKnown : List ℕ → List ℕ → Sources → Type 0
 ContentKnown facts head k = AuthInside facts (k .settings .auth) × (k .fields .start + k .fields .len ≤ length head)

@@ -9,7 +9,7 @@ ghost use Rattle.octets.specs.Lists.{isIn, different};
 ghost use Rattle.octets.specs.Copy.{Wrote};
 ghost use Rattle.variables.specs.Fields.{notPassed, separator};
 ghost use Rattle.variables.specs.Variables.{variableByte, httpName};
-ghost use Rattle.variables.specs.FieldVariables.{lowName, namesBefore, addedTo, addedAfter, variableFrom, variableAlone, variableIf, fieldsBytes, StoredAt, StoredAll, FieldKnown, RepeatKnown};
+ghost use Rattle.variables.specs.FieldVariables.{lowName, namesBefore, addedAt, addedAfter, variableFrom, variableAlone, variableIf, fieldsBytes, StoredAt, StoredAll, FieldKnown, RepeatKnown};
 use crate::put::put_value;
 use bulk::copy::put_any;
 use octets::compare::same_letters;
@@ -143,8 +143,9 @@ fn put_added(
     out: &mut [u8],
     at: usize,
 ) -> usize
-    requires { ⌜ StoredAt (now head) (now places) j × (at + length (addedTo (now head) (now places) (now name) (now between) j) ≤ length (now out)) ⌝ }
-    ensures { λ r. ⌜ Wrote (now (out .entry)) at (addedTo (now (head .entry)) (now (places .entry)) (now (name .entry)) (now (between .entry)) j) (now (out .exit)) r ⌝ }
+    requires { ⌜ StoredAt (now head) (now places) j × (at + length (addedAt (now head) (now places) (map lowerOf (now name)) (now between) j) ≤ length (now out)) ⌝ }
+    ensures { λ r. ⌜ Wrote (now (out .entry)) at
+        (addedAt (now (head .entry)) (now (places .entry)) (map lowerOf (now (name .entry))) (now (between .entry)) j) (now (out .exit)) r ⌝ }
 {
     if !has_name(head, places, j, name) {
         return at;

@@ -1,6 +1,5 @@
-// The order of the gateway's refusals: 20; 11 or 1; 12; 13; 14; 15; 16; 17; 18; 19; 9; 1 for a short body; 22; 21.
+// The order of the gateway's refusals: 20; 11 or 1; 12; 13; 14; 15; 16; 17; 18; 19; 9; 1 for a short body; 21.
 // Each pair of neighbours has a request with both faults, which gives the earlier number, and one with the later fault alone.
-// 22 has no case, since no request reaches it: see gateway_limits.
 use crate::gateway_cases::show;
 use crate::gateway_cases::show_into;
 use crate::gateway_cases::show_under;
@@ -84,7 +83,7 @@ fn show_roomless(http: &[u8]) {
     show_into(http, &mut out);
 }
 
-// 1 and 21, with 22 between them that no request reaches; and 19 and 21.
+// 1 and 21; and 19 and 21.
 fn room_last() {
     show_roomless(b"POST /jobs HTTP/1.0\r\nContent-Length: 5\r\n\r\nhell");
     show_roomless(b"POST /jobs HTTP/1.0\r\nContent-Length: 5\r\n\r\nhello");

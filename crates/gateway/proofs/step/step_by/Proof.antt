@@ -1,6 +1,6 @@
 -- `gateway::step::step_by` meets its contract.
 -- Assumes nothing.
-use Prim.Native.Nat.{ℕ, min, _+_, _*_, _-_, _≤_}
+use Prim.Native.Nat.{ℕ, min, _-_, _≤_}
 use mathlib.Core.Path.{_≡_, refl, sym, ap, subst, _∙_}
 use mathlib.Core.List.{List, _++_}
 use native.Mathlib.Omega.{arith}

@@ -37,20 +37,23 @@ long-front c = front-is _ _ (long (c .before .before .before .before .before .be
 long-inside : (c : tie.After-put-block2) → c .put-block2 .result ≤ length (c .put-block2 .last .1 .1 .1 .1 .1 .1 .1 .0)
 long-inside c = front-inside _ _ (long (c .before .before .before .before .before .before .before .before .before .before .before .before .before .before)) (c .put-block2 .ensures)
 
-add-if1 : tie.Need-add-if1
-add-if1 c = omega (arith, c .before .before .before .before .before .before .before .before .before .pre .limit)
+add-bound : tie.Need-add-bound
+add-bound c = omega (arith, c .before .before .before .before .before .before .before .before .before .pre .limit)
 
-add-if1-2 : tie.Need-add-if1-2
-add-if1-2 c = omega (arith, c .before .before .before .before .before .before .before .before .before .pre .limit)
+add-bound-2 : tie.Need-add-bound-2
+add-bound-2 c = omega (arith, c .before .before .before .before .before .before .before .before .before .pre .limit)
 
-add-if1-3 : tie.Need-add-if1-3
-add-if1-3 c = omega (arith, c .before .before .before .before .before .before .before .before .before .before .pre .limit)
+add-bound-3 : tie.Need-add-bound-3
+add-bound-3 c = omega (arith, c .before .before .before .before .before .before .before .before .before .pre .limit)
 
-mul-if1 : tie.Need-mul-if1
-mul-if1 c = omega (arith, c .before .before .before .before .before .before .before .before .before .before .before .pre .limit)
+add-bound-4 : tie.Need-add-bound-4
+add-bound-4 c = omega (arith, c .before .before .before .before .before .before .before .before .before .before .pre .limit)
 
-add-if1-4 : tie.Need-add-if1-4
-add-if1-4 c = omega (arith, c .before .before .before .before .before .before .before .before .before .before .before .pre .limit)
+mul-bound : tie.Need-mul-bound
+mul-bound c = omega (arith, c .before .before .before .before .before .before .before .before .before .before .before .pre .limit)
+
+add-bound-5 : tie.Need-add-bound-5
+add-bound-5 c = omega (arith, c .before .before .before .before .before .before .before .before .before .before .before .pre .limit)
 
 slice-aggregate-put-block : tie.Need-slice-aggregate-put-block
 slice-aggregate-put-block c = search needs
@@ -98,11 +101,12 @@ pub write-request-spec : {M : Type 1} → statement M
 write-request-spec =
     tie.close
     (tie.spec
-    add-if1
-    add-if1-2
-    add-if1-3
-    mul-if1
-    add-if1-4
+    add-bound
+    add-bound-2
+    add-bound-3
+    add-bound-4
+    mul-bound
+    add-bound-5
     slice-aggregate-put-block
     put-block-requires
     array-share-prefix-short

@@ -13,12 +13,14 @@ use Rattle.lent.proofs.check.check_by.Tie as tie
 -- the blocks, where their names are stored
 facts-said :
     (c : tie.After-known-told2)
-    → (let a = c .before .before .before .before .before .before .before .before .before .before .before .before .before .before .before .args in BlockFound (a .facts .now) (a .facts-names .now) (c .before .before .before .before .before .before .before .before .store-block .last .1 .0) (Done (Headers (c .before .a .given .0 .0))))
+    → (let a = c .before .before .before .before .before .before .before .before .before .before .before .before .before .before .before .args in
+    BlockFound (a .facts .now) (a .facts-names .now) (c .before .before .before .before .before .before .before .before .store-block .last .1 .0) (Done (Headers (c .before .a .given .0 .0))))
 facts-said c = said (c .before .before .before .before .before .before .before .before .store-block .ensures) (c .before .before .before .before .f .given .1 ∙ ap Done (c .before .a .given .1))
 
 site-said :
     (c : tie.After-known-told4)
-    → (let a = c .before .before .before .before .before .before .before .before .before .before .before .before .before .before .before .before .before .before .before .before .before .before .before .before .before .args in BlockFound (a .site .now) (a .site-names .now) (c .before .before .before .before .before .before .before .before .store-block2 .last .1 .0) (Done (Headers (c .before .b .given .0 .0))))
+    → (let a = c .before .before .before .before .before .before .before .before .before .before .before .before .before .before .before .before .before .before .before .before .before .before .before .before .before .args in
+    BlockFound (a .site .now) (a .site-names .now) (c .before .before .before .before .before .before .before .before .store-block2 .last .1 .0) (Done (Headers (c .before .b .given .0 .0))))
 site-said c = said (c .before .before .before .before .before .before .before .before .store-block2 .ensures) (c .before .before .before .before .s .given .1 ∙ ap Done (c .before .b .given .1))
 
 store-block-requires : tie.Need-store-block-requires

@@ -1,13 +1,11 @@
 -- `variables::block::put_block` meets its contract.
 -- Assumes nothing.
-use Prim.Native.Nat.{ℕ, _≤_}
+use Prim.Native.Nat.{ℕ}
 use mathlib.Core.Path.{_≡_, refl}
 use mathlib.Core.List.{List, _++_}
 use native.Mathlib.Omega.{arith}
-use lib.ListN.{length}
 use borrow.Author.Needs.{needs}
 use Rattle.headers.specs.Block.{printed}
-use Rattle.octets.specs.Copy.{Wrote}
 use Rattle.variables.specs.FixedVariables.{contentVariables, pathVariables, requestVariables, serverVariables}
 use Rattle.variables.specs.FieldVariables.{fieldsBytes}
 use Rattle.variables.specs.Block.{blockAt}

@@ -3,12 +3,10 @@
 use Prim.Native.Nat.{ℕ}
 use mathlib.Core.Path.{_≡_, sym}
 use mathlib.Core.List.{List, [], _∷_, _++_}
-use native.Mathlib.Omega.{arith}
 use lib.ListN.{take, drop}
 use lib.Seq.{length-take-le}
 use borrow.Author.Needs.{needs}
 use Rattle.octets.specs.Text.{bytes}
-use Rattle.octets.specs.Copy.{Wrote}
 use Rattle.octets.proofs.Lists.{part}
 use Rattle.headers.specs.Block.{Header, printed}
 use Rattle.lent.specs.Places.{isGiven, remoteUserAt}
