@@ -25,7 +25,7 @@ CLAIMS = {
     'headers': ['LookupFindsValue', 'NumbersHold'],
     'scgi': ['AcceptsExactly', 'WritesExactly', 'WriteThenRead', 'ReadThenWrite', 'SpoolsHold', 'WindowReadsAll', 'NumbersHold'],
     'lent': ['MountIsLongest', 'LongestWins', 'PoolsAreValues', 'RouteIsPath'],
-    'gateway': ['BytesExactlyMeaning', 'WrittenIsAccepted', 'NumbersHold', 'WorkedCases'],
+    'gateway': ['BytesExactlyMeaning', 'WrittenIsAccepted', 'VariablesFit', 'NumbersHold', 'WorkedCases'],
     'response': ['TableHolds', 'StatusHolds', 'ServedIsTarget', 'LocationStands', 'PlacesWithin', 'StreamSettles', 'NumbersHold'],
     'capi': ['ZeroIsGiven', 'RefusalKeeps'],
 }

@@ -42,10 +42,9 @@
  * - OY_CUT: read what the socket has to give and call again. Each call reads the head again and nothing of the body, so call
  *   for what a read gives and not for every byte. A full buffer is never OY_CUT. Where the client has closed, answer 400 if
  *   a byte is there; where it is late, answer 408.
- * - OY_CUT although CR LF CR LF is among the bytes: the head is accepted, and only bytes of the body are missing. (Of the
- *   refusals that come later, 22 is out of reach under the other limits, and 21 is a matter of room.) If the head has a field
- *   Expect with the value 100-continue, letter case aside, and the version HTTP/1.1, send "HTTP/1.1 100 Continue" and an
- *   empty line, once, before reading on.
+ * - OY_CUT although CR LF CR LF is among the bytes: the head is accepted, and only bytes of the body are missing. (The one
+ *   refusal that comes later, 21, is a matter of room.) If the head has a field Expect with the value 100-continue, letter case
+ *   aside, and the version HTTP/1.1, send "HTTP/1.1 100 Continue" and an empty line, once, before reading on.
  * - OY_ROOM: lend more. An output of OY_MAX_REQUEST bytes and a list of OY_GATEWAY_NUMBERS are always enough.
  * - every other number: answer oy_refusal_status(number) and close. An empty line before a request is 12; a server that wants
  *   to forgive one drops it itself.
@@ -115,7 +114,7 @@ enum oy_refusal {
     OY_MOUNT = 19,             /* no mount fits the path */
     OY_LENT = 20,              /* connection facts, site settings or mounts wrong */
     OY_ROOM = 21,              /* the output, or the list of numbers, is too short */
-    OY_VARIABLES = 22,         /* variables above OY_MAX_BLOCK bytes */
+    OY_VARIABLES = 22,         /* not given any more; the number stays unused */
     OY_BODY_LENGTH = 23,       /* writer: the body's length is not that of CONTENT_LENGTH */
     OY_RESPONSE = 24,          /* script response head malformed */
     OY_CONTRADICTION = 25      /* script response fields contradict each other */
@@ -271,7 +270,7 @@ uint64_t oy_spool(const uint8_t *bytes, size_t len, uint64_t *lengths, size_t le
  * wins. Fields of one name become one variable, their values joined in order with ", ", those of Cookie with "; ".
  * Gives: the numbers of enum oy_gateway_index.
  * Refusals in their order: 20, then 11 or 1 where the head has no end, 12, 13, 14, 15, 16, 17, 18, 19, 9, 1 where the body is
- * short, 22, 21.
+ * short, 21.
  */
 uint64_t oy_gateway(const uint8_t *facts, size_t facts_len, const uint8_t *site, size_t site_len, const uint8_t *mounts,
                     size_t mounts_len, const uint8_t *http, size_t http_len, uint8_t *out, size_t out_len, uint64_t *answer,

@@ -44,7 +44,7 @@ OYINKAFUBO_MAY_REST_ static const struct oy_refusal_entry *oy_refusal_row(uint64
         /* 19 */ {404, "no mount fits the path"},
         /* 20 */ {500, "connection facts, site settings or mounts wrong"},
         /* 21 */ {0, "output or answer too short"},
-        /* 22 */ {431, "variables above 16,384 bytes"},
+        /* 22 */ {431, "not given any more; the number stays unused"},
         /* 23 */ {500, "body length differs from CONTENT_LENGTH"},
         /* 24 */ {502, "script response head malformed"},
         /* 25 */ {502, "script response fields contradict"},

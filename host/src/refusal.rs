@@ -23,7 +23,7 @@ pub const TRANSFER_ENCODING: Refusal = 18;
 pub const MOUNT: Refusal = 19;
 pub const LENT: Refusal = 20;
 pub const ROOM: Refusal = 21;
-pub const VARIABLES: Refusal = 22;
+// 22, for variables above 16,384 bytes, is not given any more: no request comes near.
 pub const BODY_LENGTH: Refusal = 23;
 pub const RESPONSE: Refusal = 24;
 pub const CONTRADICTION: Refusal = 25;

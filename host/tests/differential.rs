@@ -97,7 +97,7 @@ fn spool() {
     }
 }
 
-/// 22 is never given: with the limits of the head, of the target and of the blocks the variables stay below 16,384 bytes.
+/// 22 is none of them: under the limits of the head, of the target, of the fields and of the blocks the variables fit in a block.
 #[test]
 fn gateway() {
     check(Call::Gateway, 200_000, &[1, 9, 11, 12, 13, 14, 15, 16, 17, 18, 19, 20, 21]);

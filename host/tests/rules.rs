@@ -264,4 +264,60 @@ mod gateway {
             assert_eq!(forward(side, &late).0, Err(11), "{name}");
         }
     }
+
+    /// How many bytes and how many headers the block has that is written for a request that must be accepted.
+    fn block_of(side: &dyn Calls, blocks: Blocks, http: &[u8]) -> (u64, usize) {
+        let mut out = vec![0; 20_000];
+        let written = side.forward(blocks, http, &mut out).expect("accepted").numbers()[0] as usize;
+        let places = side.read(&out[..written]).expect("an SCGI request");
+        let block = &out[places.block_start as usize..][..places.block_len as usize];
+        (places.block_len, block.iter().filter(|&&byte| byte == 0).count() / 2)
+    }
+
+    /// A block of such headers and, as its last value, as many bytes as it may have.
+    fn filled(start: &str) -> Vec<u8> {
+        let mut block = bytes(start);
+        block.resize(1_023, b'a');
+        block.push(0);
+        block
+    }
+
+    /// 02 §10: the variables have at most 14,720 bytes and are at most 79, far from 16,384 and 128.
+    #[test]
+    fn the_most_variables() {
+        let names: Vec<String> =
+            (b'A'..=b'H').flat_map(|a| (b'0'..=b'7').map(move |b| format!("{}{}:\r\n", a as char, b as char))).collect();
+        let line = format!("GET /jobs/{} HTTP/1.0\r\n", "a".repeat(4_090));
+        let site = filled("SERVER_NAME|q|SERVER_PORT|80|SERVER_SOFTWARE|");
+        let facts = filled("REMOTE_ADDR|");
+        let mounts = bytes("/jobs|app|");
+        let start = line + &names[..63].concat();
+        let longest = format!("{start}{}:\r\n\r\n", "a".repeat(8_187 - start.len()));
+        let asked = filled("AUTH_TYPE|Basic|REMOTE_USER|u|REMOTE_ADDR|");
+        let most = format!("GET /jobs HTTP/1.0\r\nContent-Type:\r\n{}\r\n", names[..63].concat());
+        for (name, side) in sides() {
+            let blocks = Blocks { facts: &facts, site: &site, mounts: &mounts };
+            assert_eq!(longest.len(), 8_192);
+            assert_eq!(block_of(side, blocks, longest.as_bytes()), (14_720, 77), "{name}");
+            let blocks = Blocks { facts: &asked, site: &site, mounts: &mounts };
+            assert_eq!(block_of(side, blocks, most.as_bytes()).1, 79, "{name}");
+        }
+    }
+
+    /// Values and targets of every length, over the places where the archive takes longer buffers, give the same bytes on both sides.
+    #[test]
+    fn every_length() {
+        let lent = recorded::blocks("10.0.0.9", "/jobs", "pool");
+        let blocks = Blocks { facts: &lent[0], site: &lent[1], mounts: &lent[2] };
+        for n in 0..2_000 {
+            let a = "a".repeat(n);
+            for http in [format!("GET /jobs HTTP/1.0\r\nX: {a}\r\n\r\n"), format!("GET /jobs/{a} HTTP/1.0\r\n\r\n")] {
+                let given = sides().map(|(_, side)| {
+                    let mut out = vec![7; 8_000];
+                    (side.forward(blocks, http.as_bytes(), &mut out).map(|forwarded| forwarded.numbers()), out)
+                });
+                assert!(given[0].0.is_ok() && given[0] == given[1], "{n}: {http}");
+            }
+        }
+    }
 }

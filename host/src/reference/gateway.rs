@@ -36,9 +36,6 @@ fn write_request(variables: &Variables, body: &[u8], out: &mut [u8]) -> Result<u
     let mut count = Count(0);
     variables.put(&mut count);
     let block_len = count.0;
-    if block_len > MAX_BLOCK {
-        return Err(VARIABLES);
-    }
     let digits = Digits::of(block_len);
     let len = digits.text().len() + 1 + block_len + 1 + body.len();
     let mut cursor = Cursor { out: out.get_mut(..len).ok_or(ROOM)?, at: 0 };
