@@ -74,8 +74,8 @@ fn seen_before(head: &[u8], places: &[u64], k: usize, n: usize) -> bool
     false
 }
 
-// Whether two of n fields have the same name, letter case aside.
-fn names_repeat(head: &[u8], places: &[u64], n: usize) -> bool
+// Whether two of n fields have the same name, letter case aside. Most requests have no name twice.
+pub fn names_repeat(head: &[u8], places: &[u64], n: usize) -> bool
     requires { ⌜ StoredAll (now head) (now places) n ⌝ }
     ensures { λ r. ⌜ r ≡ not (different (namesBefore (now (head .entry)) (now (places .entry)) n)) ⌝ }
 {
@@ -223,12 +223,19 @@ fn put_new(
 }
 
 // Writes one variable for each name of the passed fields, by first appearance.
-// Most requests have no name twice: that is tested once, and each field is then written with no further comparison.
-pub fn put_fields(head: &[u8], places: &[u64], n: usize, out: &mut [u8], at: usize) -> usize
-    requires { ⌜ StoredAll (now head) (now places) n × (at + length (fieldsBytes (now head) (now places) n) ≤ length (now out)) ⌝ }
+// Where repeat is false no name is there twice, and each field is written with no further comparison.
+pub fn put_fields(
+    head: &[u8],
+    places: &[u64],
+    n: usize,
+    repeat: bool,
+    out: &mut [u8],
+    at: usize,
+) -> usize
+    requires { ⌜ StoredAll (now head) (now places) n × RepeatKnown (now head) (now places) n repeat
+        × (at + length (fieldsBytes (now head) (now places) n) ≤ length (now out)) ⌝ }
     ensures { λ r. ⌜ Wrote (now (out .entry)) at (fieldsBytes (now (head .entry)) (now (places .entry)) n) (now (out .exit)) r ⌝ }
 {
-    let repeat = names_repeat(head, places, n);
     let mut p = at;
     let mut k: usize = 0;
     while k < n {

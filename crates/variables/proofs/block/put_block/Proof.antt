@@ -17,7 +17,7 @@ use Rattle.variables.proofs.block.put_block.Tie as tie
 -- The start, from each place where one more is written.
 
 abbrev start₁ : tie.After-slice-known2 → tie.Start
-start₁ c = c .before .before .before .before .before .before .before .before .before .before
+start₁ c = c .before .before .before .before .before .before .before .before .before .before .before
 
 abbrev start₂ : tie.After-slice-known3 → tie.Start
 start₂ c = start₁ (c .before .before .before .before)
@@ -66,9 +66,14 @@ third c = left-more _ refl (second (c .before .before .before .before)) (c .befo
 fourth : (c : tie.After-slice-known5) → Rest (start₄ c) (c .before .before .put-server .last .1 .1 .1 .1 .0) (c .before .before .put-server .result) (fields (start₄ c))
 fourth c = left-more _ refl (third (c .before .before .before .before)) (c .before .before .put-server .ensures)
 
+names-repeat-requires : tie.Need-names-repeat-requires
+names-repeat-requires c κs =
+    let k = c .before .before .before .before .before .before .pre .0 in
+    (omega (arith, k .fields .few, k .numbers), k .fields .inside)
+
 put-content-requires : tie.Need-put-content-requires
 put-content-requires c κs =
-    let s = c .before .before .before .before .before .before .before in
+    let s = c .before .before .before .before .before .before .before .before in
     let k = s .pre .0 in
     let a = s .args in
     let room = left-room (printed (contentVariables (a .facts .now) (a .head .now) (a .k) (a .size))) _ (apart s) (start s) in
@@ -76,29 +81,29 @@ put-content-requires c κs =
 
 put-path-requires : tie.Need-put-path-requires
 put-path-requires c κs =
-    let s = c .before .before .before .before .before .before .before .before .before .before .before in
+    let s = c .before .before .before .before .before .before .before .before .before .before .before .before in
     let k = s .pre .0 in
     let a = s .args in
     ((k .settings .addr, k .line, k .name), left-room (printed (pathVariables (a .facts .now) (a .head .now) (a .path .now) (a .k))) _ refl (first (c .before)))
 
 put-request-requires : tie.Need-put-request-requires
 put-request-requires c κs =
-    let s = c .before .before .before .before .before .before .before .before .before .before .before .before .before .before .before in
+    let s = c .before .before .before .before .before .before .before .before .before .before .before .before .before .before .before .before in
     let k = s .pre .0 in
     let a = s .args in
     ((k .settings .auth, k .line .method-inside, k .line .target-inside), left-room (printed (requestVariables (a .facts .now) (a .head .now) (a .k))) _ refl (second (c .before)))
 
 put-server-requires : tie.Need-put-server-requires
 put-server-requires c κs =
-    let s = c .before .before .before .before .before .before .before .before .before .before .before .before .before .before .before .before .before .before .before in
+    let s = c .before .before .before .before .before .before .before .before .before .before .before .before .before .before .before .before .before .before .before .before in
     let k = s .pre .0 in
     let a = s .args in
     ((k .settings, k .line .minor-is, k .name, k .line .decoded-inside), left-room (printed (serverVariables (a .facts .now) (a .site .now) (a .path .now) (a .k))) _ refl (third (c .before)))
 
 put-fields-requires : tie.Need-put-fields-requires
 put-fields-requires c κs =
-    let k = c .before .before .before .before .before .before .before .before .before .before .before .before .before .before .before .before .before .before .before .before .before .before .before .pre .0 in
-    ((omega (arith, k .fields .few, k .numbers), k .fields .inside), fourth (c .before) .room)
+    let k = c .before .before .before .before .before .before .before .before .before .before .before .before .before .before .before .before .before .before .before .before .before .before .before .before .pre .0 in
+    ((omega (arith, k .fields .few, k .numbers), k .fields .inside), c .before .before .before .before .before .before .before .before .before .before .before .before .before .before .before .before .before .names-repeat .ensures, fourth (c .before) .room)
 
 same-length : tie.Need-same-length
 same-length c = search needs
@@ -110,6 +115,7 @@ pub put-block-spec : {M : Type 1} → statement M
 put-block-spec =
     tie.close
     (tie.spec
+    names-repeat-requires
     put-content-requires
     put-path-requires
     put-request-requires

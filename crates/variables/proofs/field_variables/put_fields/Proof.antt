@@ -12,25 +12,22 @@ use Rattle.variables.proofs.field_variables.put_fields.Statement.{state
 use Rattle.variables.proofs.field_variables.put_fields.Tie as tie
 
 abbrev Inv-loop : tie.InvT-loop
-Inv-loop head places n out₀ at repeat p₀ k₀ out p k =
+Inv-loop head places n repeat out₀ at p₀ k₀ out p k =
     (k ≤ n) × (length out ≡ length out₀) × Left out₀ at (fieldsBytes head places n) out p (variablesFrom head places n k)
 
 abbrev μ-loop : tie.MeasureT-loop
-μ-loop head places n out₀ at repeat p₀ k₀ out p k = n - k
-
-names-repeat-requires : tie.Need-names-repeat-requires Inv-loop μ-loop
-names-repeat-requires c κs = search needs
+μ-loop head places n repeat out₀ at p₀ k₀ out p k = n - k
 
 loop-holds : tie.Need-loop-holds Inv-loop μ-loop
-loop-holds c = (search needs, refl, rw (← variables-start _ _ _) (left-all (c .before .before .before .before .pre .1)))
+loop-holds c = (search needs, refl, rw (← variables-start _ _ _) (left-all (c .before .before .before .pre .2)))
 
 put-new-requires : tie.Need-put-new-requires Inv-loop μ-loop
 put-new-requires c κs =
     let l = c .before .before in
-    let s = l .before .before .before .before .before in
+    let s = l .before .before .before .before in
     let a = s .args in
     let t = c .before .loop-test .taken in
-    ((t, s .pre .0), l .before .names-repeat .ensures, left-room (variableIf (a .head .now) (a .places .now) (a .n) (l .loop .k)) _ (variables-next _ _ _ _ t) (l .loop .inv .2))
+    ((t, s .pre .0), s .pre .1, left-room (variableIf (a .head .now) (a .places .now) (a .n) (l .loop .k)) _ (variables-next _ _ _ _ t) (l .loop .inv .2))
 
 add-k : tie.Need-add-k Inv-loop μ-loop
 add-k c = search needs
@@ -53,7 +50,6 @@ put-fields-spec =
     (tie.spec
     Inv-loop
     μ-loop
-    names-repeat-requires
     loop-holds
     put-new-requires
     add-k
