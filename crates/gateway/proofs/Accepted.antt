@@ -1,7 +1,7 @@
 -- What is written for an accepted request: its meaning's variables and body, a request of the SCGI text.
 -- Assumes nothing.
 use Prim.Native.Nat.{ℕ, _-_, _≤_}
-use mathlib.Core.Path.{_≡_, refl, ap}
+use mathlib.Core.Path.{_≡_, refl, ap, _∙_}
 use mathlib.Core.List.{List}
 use native.Mathlib.Omega.{arith}
 use lib.ListN.{length, take, length-take}
@@ -83,7 +83,7 @@ module _
 
   -- the links speak of the path that was kept with the request
   written : f ≡ forwardBy (l .m) (bytesOf (k .settings) route meaning) (l .b .used)
-  written = rw (o .path) at (l .written)
+  written = l .written ∙ ap (λ (p : List ℕ). forwardBy (l .m) (bytesOf (k .settings) (routeOf (l .m) p) meaning) (l .b .used)) (o .path)
 
   body-limit : length (meaning .body) ≤ 1048576
   body-limit = rw (body-is .is) (simp length-take (omega (arith, body-is .limit)))
