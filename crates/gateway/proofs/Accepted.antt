@@ -14,10 +14,12 @@ use Rattle.headers.specs.Block.{here, later}
 use Rattle.scgi.specs.Grammar.{first, IsRequest}
 use Rattle.http.proofs.Claims.{heads-hold}
 use Rattle.targets.specs.Target.{Target, targetOf}
-use Rattle.lent.specs.Mounts.{Mount, Route, mountFor, routeOf}
+use Rattle.mounts.specs.Mounts.{Mount, Route, mountFor, routeOf}
 use Rattle.lent.specs.Lent.{Lent, lentOf}
-use Rattle.lent.specs.Claims.{Among, here as first-mount, later as later-mount, ProperLent}
-use Rattle.lent.proofs.Claims.{lent-is-proper, mount-is-longest}
+use Rattle.mounts.specs.Claims.{Among, here as first-mount, later as later-mount}
+use Rattle.mounts.proofs.Claims.{mount-is-longest}
+use Rattle.lent.specs.Claims.{ProperLent}
+use Rattle.lent.proofs.Claims.{lent-is-proper}
 use Rattle.request.specs.Claims.{Obeys}
 use Rattle.request.proofs.Claims.{requests-obey}
 use Rattle.variables.specs.Meaning.{Meaning, meaningOf}

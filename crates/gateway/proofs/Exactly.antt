@@ -1,27 +1,28 @@
 -- The bytes written are equal exactly when the meanings are, and are accepted by the SCGI reader; the pool is a mount's.
 -- Assumes nothing.
-use Prim.Native.Nat.{ℕ, _+_, _≤_}
-use mathlib.Core.Path.{_≡_, refl, sym, ap, subst, _∙_}
-use mathlib.Core.List.{List, [], _++_, map}
+use Prim.Native.Nat.{ℕ}
+use mathlib.Core.Path.{_≡_, refl, sym, ap, _∙_}
+use mathlib.Core.List.{List, [], _++_}
 use native.Mathlib.Nat.{le-refl}
 use lib.ListN.{length}
 use Rattle.octets.specs.Outcome.{gives}
-use Rattle.octets.proofs.Outcomes.{given-gives, gives-once, then-gives}
-use Rattle.headers.specs.Block.{Header, Among, here, later, parsed, printed}
+use Rattle.octets.proofs.Outcomes.{given-gives, gives-once}
+use Rattle.headers.specs.Block.{Header, Among, here, later, printed}
 use Rattle.scgi.specs.Write.{writeOf}
 use Rattle.scgi.proofs.Claims.{request-once, writes-exactly, write-then-read}
 use Rattle.targets.specs.Target.{Target, targetOf}
-use Rattle.lent.specs.Mounts.{Mount, Route, placed, mountOf, mountFor, routeOf}
+use Rattle.mounts.specs.Mounts.{Mount, Route, mountOf, mountFor, routeOf}
+use Rattle.mounts.specs.Claims.{MountOf, Each, one-more, Among as MountAmong, here as first-mount, later as later-mount}
+use Rattle.mounts.proofs.Claims.{mount-is-longest, mounts-are-headers}
 use Rattle.lent.specs.Lent.{Lent, lentOf}
-use Rattle.lent.specs.Claims.{headerAt, Among as MountAmong, here as first-mount, later as later-mount}
-use Rattle.lent.proofs.Claims.{lent-mounts, mount-is-longest, pools-are-values}
+use Rattle.lent.proofs.Claims.{lent-mounts}
 use Rattle.variables.specs.Meaning.{Meaning}
 use Rattle.variables.specs.Variables.{variables}
 use Rattle.gateway.specs.Step.{bytesOf, Forward, meaningAt, forwardOf}
 use Rattle.gateway.specs.Claims.{BytesExactlyMeaning, WrittenIsAccepted, PoolStands, PoolIsValue}
 use Rattle.variables.proofs.Claims.{variables-say-meaning}
 use Rattle.gateway.proofs.Links.{lent-of, without-room}
-use Rattle.gateway.proofs.Accepted.{one-of, Account, account}
+use Rattle.gateway.proofs.Accepted.{Account, account}
 
 module _ {k : Lent} {http : List ℕ} {f : Forward} (a : Account k http f) where
   abbrev route : Route
@@ -86,24 +87,32 @@ written-is-accepted facts site mounts http rest room f e =
 
 -- The pool.
 
--- the header of one of the mounts is one of the headers
-header-among : (b : List ℕ) {m : Mount} {ms : List Mount} → MountAmong m ms → Among (headerAt b m) (map (headerAt b) ms)
-header-among b first-mount = here
-header-among b (later-mount a) = later (header-among b a)
+-- the header of one of the mounts
+record Made (block : List ℕ) (m : Mount) (hs : List Header) : Type 0 where
+  header : Header
+  among : Among header hs
+  of : MountOf block m header
 
-stands :
-    (mounts : List ℕ) (f : Forward) (m : Mount) (hs : List Header) → parsed mounts ≡ gives hs → (f .poolStart ≡ m .poolStart) × (f .poolLength ≡ m .poolLength)
-    → m .poolStart + m .poolLength ≤ length mounts → Among (headerAt mounts m) hs → PoolStands mounts m f
-stands mounts f m hs e p i a = record { hs = hs; are = e; inside = rw (p .0, p .1) i; value = rw (p .0, p .1) a }
+made : {block : List ℕ} {m : Mount} {ms : List Mount} {hs : List Header} → MountAmong m ms → Each block ms hs → Made block m hs
+made first-mount (one-more {m} {h} p ps) = record { header = h; among = here; of = p }
+made (later-mount a) (one-more p ps) =
+    let o = made a ps in
+    record { header = o .header; among = later (o .among); of = o .of }
 
 pub pool-is-value : PoolIsValue
 pool-is-value facts site mounts http rest f w =
     let ms : List Mount = w .lent .mounts in
     let m = w .mount in
-    let are = lent-mounts facts site mounts (w .lent) (w .is-lent) in
-    let p = then-gives (parsed mounts) (λ hs. gives (placed 0 hs)) ms are in
-    let q : placed 0 (p .it) ≡ ms = gives-once _ ms (p .next) in
+    let say = mounts-are-headers mounts ms (lent-mounts facts site mounts (w .lent) (w .is-lent)) in
     let n = mount-is-longest .wins ms (w .target .path) m (given-gives (mountOf ms (w .target .path)) 19 m (w .wins)) .among in
-    let h : map (headerAt mounts) ms ≡ p .it = ap (map (headerAt mounts)) (sym q) ∙ pools-are-values .values mounts (p .it) (p .first) in
-    stands mounts f m (p .it) (p .first) (w .pool) (one-of n (pools-are-values .inside mounts ms are))
-    (subst (Among (headerAt mounts m)) h (header-among mounts n))
+    let o = made n (say .each) in
+    let p = w .pool in
+    record {
+      hs = say .hs;
+      header = o .header;
+      are = say .are;
+      among = o .among;
+      name = o .of .name;
+      inside = rw (p .0, p .1) (o .of .inside);
+      pool = rw (p .0, p .1) (o .of .pool);
+    }

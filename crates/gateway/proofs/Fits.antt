@@ -8,9 +8,10 @@ use lib.ListN.{length, length-append}
 use Rattle.octets.specs.Outcome.{gives}
 use Rattle.octets.proofs.Outcomes.{given-gives}
 use Rattle.headers.specs.Block.{Header, printed}
-use Rattle.lent.specs.Mounts.{Mount, Route, mountOf, mountFor, routeOf}
+use Rattle.mounts.specs.Mounts.{Mount, Route, mountOf, mountFor, routeOf}
 use Rattle.lent.specs.Lent.{Lent, lentOf}
-use Rattle.lent.proofs.Claims.{route-is-path, settings-fit}
+use Rattle.mounts.proofs.Claims.{route-is-path}
+use Rattle.lent.proofs.Claims.{settings-fit}
 use Rattle.request.specs.Request.{Request, requestOf}
 use Rattle.request.proofs.Claims.{requests-obey}
 use Rattle.variables.specs.Meaning.{meaningOf}

@@ -10,7 +10,7 @@ use borrow.Author.Tests.{leb-true}
 use Rattle.octets.specs.Outcome.{Outcome, gives, need}
 use Rattle.octets.proofs.Outcomes.{need-gives, given-gives, gives-once, then-gives}
 use Rattle.http.specs.Head.{headOf}
-use Rattle.lent.specs.Mounts.{Mount, mountOf, mountFor, routeOf}
+use Rattle.mounts.specs.Mounts.{Mount, mountOf, mountFor, routeOf}
 use Rattle.lent.specs.Lent.{Lent}
 use Rattle.variables.specs.Meaning.{meaningOf}
 use Rattle.gateway.specs.Claims.{RoomIsLast}

@@ -11,7 +11,7 @@ use Rattle.octets.specs.Scan.{allOf}
 use Rattle.octets.proofs.Refusals.{Refuses, with-number, not-refused, number-of, refuses-within, refuses-then, refuses-need, refuses-given}
 use Rattle.http.specs.Head.{headOf}
 use Rattle.http.proofs.Claims as Http
-use Rattle.lent.specs.Mounts.{mountOf}
+use Rattle.mounts.specs.Mounts.{mountOf}
 use Rattle.lent.specs.Lent.{Lent, lentOf}
 use Rattle.lent.proofs.Claims.{lent-number}
 use Rattle.request.specs.Request.{requestOf}

@@ -15,7 +15,7 @@ use Rattle.framing.proofs.Spools.{spools-equal, spool-cut}
 use Rattle.framing.proofs.SpoolSteps.{spool-goes-on}
 use Rattle.http.specs.Head.{headOf}
 use Rattle.http.proofs.Claims.{heads-hold}
-use Rattle.lent.specs.Mounts.{mountFor}
+use Rattle.mounts.specs.Mounts.{mountFor}
 use Rattle.lent.specs.Lent.{Lent, lentOf}
 use Rattle.request.specs.Request.{requestOf}
 use Rattle.gateway.specs.Body.{Body, bodyOf}

@@ -11,17 +11,16 @@ use lib.ListN.{length, take, drop, length-append}
 use lib.Seq.{length-take-le, take-append-seam}
 use Rattle.octets.specs.Outcome.{Outcome, refused, gives, then, need, given}
 use Rattle.octets.proofs.Outcomes.{given-gives, gives-once, then-gives}
-use Rattle.headers.specs.Block.{parsed, printed, wellFormed}
-use Rattle.headers.proofs.Claims.{well-formed-headed}
+use Rattle.headers.specs.Block.{printed}
 use Rattle.scgi.specs.Write.{inRoom, writingOutcome, outputAfter, WrittenOut}
 use Rattle.scgi.specs.declared.write.Writing.{Writing}
 use Rattle.scgi.specs.declared.write.Writing.the-variants.{Bytes, Refused as WriteRefused}
 use Rattle.http.specs.Head.{headOf}
 use Rattle.http.specs.Fields.{fieldsAt}
-use Rattle.lent.specs.Mounts.{Mount, Route, placed, mountsAt, mountOf, mountFor, routeOf}
-use Rattle.lent.specs.Search.{MountPlace, placeOf, searchOf, mountOutcome}
-use Rattle.lent.specs.declared.search.Mount.the-variants.{Found, Refused as MountRefused}
-use Rattle.lent.proofs.Claims.{longest-wins, route-is-path}
+use Rattle.mounts.specs.Mounts.{Mount, Route, mountsOf, mountOf, mountFor, routeOf}
+use Rattle.mounts.specs.Search.{MountPlace, placeOf, searchOf, mountOutcome}
+use Rattle.mounts.specs.declared.search.Mount.the-variants.{Found, Refused as MountRefused}
+use Rattle.mounts.proofs.Claims.{longest-wins, route-is-path}
 use Rattle.lent.specs.Lent.{Lent, lentOf}
 use Rattle.lent.specs.Places.{settingsAt}
 use Rattle.variables.specs.Meaning.{Meaning, meaningOf}
@@ -107,16 +106,11 @@ answered-by f d after w x = by (leb (length (f .scgi)) (length d)) w (x .answer)
 
 -- The mount that wins, by what the search says.
 
-pub mounts-formed : (mounts : List ℕ) (ms : List Mount) → mountsAt mounts ≡ gives ms → wellFormed mounts ≡ true
-mounts-formed mounts ms e =
-    let g = then-gives (parsed mounts) (λ hs. gives (placed 0 hs)) ms e in
-    well-formed-headed mounts .1 (record { hs = g .it; is = g .first })
-
 -- the mount that a search names by numbers: its name is the path's front
 abbrev pub mountBy : List ℕ → ℕ → ℕ → ℕ → Mount
 mountBy path n start len = record { name = take n path; poolStart = start; poolLength = len }
 
-module _ (mounts path : List ℕ) (ms : List Mount) (are : mountsAt mounts ≡ gives ms) where
+module _ (mounts path : List ℕ) (ms : List Mount) (are : mountsOf mounts ≡ gives ms) where
   -- the search finds the mount that wins
   search-wins : searchOf mounts path ≡ then (mountFor ms path) (λ m. gives (placeOf m))
   search-wins = rw are (ap (λ (o : Option Mount). then (given o 19) (λ m. gives (placeOf m))) (longest-wins ms path))

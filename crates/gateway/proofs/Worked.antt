@@ -25,8 +25,8 @@ use Rattle.targets.specs.Escape.{escapesRight, hexValue, decodedFrom}
 use Rattle.targets.specs.Target.{pathOf, queryOf, rawRight, noDots, segmentsRight, decodedRight, targetOf}
 use Rattle.http.specs.Fields.{Field, fieldOf, eachField}
 use Rattle.lent.specs.Settings.{settingsOf}
-use Rattle.lent.specs.Mounts.{placed, begins, mountOf}
-use Rattle.lent.specs.Lent.{ends, allMounts, lentOf}
+use Rattle.mounts.specs.Mounts.{begins, ends, mountsFrom, mountsOf, mountOf}
+use Rattle.lent.specs.Lent.{lentOf}
 use Rattle.variables.specs.Fields.{passed, separator, addedBy, grouped, groupedOf}
 use Rattle.request.specs.Named.{valuesOf}
 use Rattle.variables.specs.Variables.{fixed}
@@ -38,7 +38,7 @@ use Rattle.gateway.specs.Claims.{WorkedCases}
 
 pub worked-cases : WorkedCases
 unfolding cases readOf lengthFrom checkBlock parted paired different isIn sameBytes numberFrom isDigit has stepWith lentOf
-    settingsOf allMounts placed begins ends mountOf valueIn forwardOf headOf endFrom linesFrom requestOf requestLineOf versionOf
+    settingsOf mountsOf mountsFrom begins ends mountOf valueIn forwardOf headOf endFrom linesFrom requestOf requestLineOf versionOf
     isMethod isVersion isToken isLetter isHex isTarget isName isValue isBlank run allOf count kept escapesRight hexValue
     decodedFrom pathOf queryOf rawRight noDots segmentsRight decodedRight targetOf fieldOf eachField lowerOf rulesOf hostRight
     contentOf valuesOf
@@ -108,8 +108,8 @@ further =
     ∷ []
 
 pub further-right : map (λ c. answerTo (c .asked)) further ≡ map (λ c. c .answer) further
-unfolding further sameBytes isIn numberFrom digitsIn isDigit printed parted paired different stepWith lentOf settingsOf allMounts
-    placed begins ends mountOf valueIn forwardOf headOf endFrom linesFrom requestOf requestLineOf versionOf isMethod isVersion
+unfolding further sameBytes isIn numberFrom digitsIn isDigit printed parted paired different stepWith lentOf settingsOf mountsOf
+    mountsFrom begins ends mountOf valueIn forwardOf headOf endFrom linesFrom requestOf requestLineOf versionOf isMethod isVersion
     isToken isLetter isHex isTarget isName isValue isBlank run allOf count kept escapesRight hexValue decodedFrom pathOf queryOf
     rawRight noDots segmentsRight decodedRight targetOf fieldOf eachField lowerOf upperOf rulesOf hostRight contentOf valuesOf
     bodyOf fixed passed separator addedBy grouped

@@ -14,7 +14,7 @@ use Rattle.headers.specs.Block.{Header, Among, parsed, printed}
 use Rattle.scgi.specs.Grammar.{encoded, IsRequest}
 use Rattle.scgi.specs.Claims.{ReadBack}
 use Rattle.targets.specs.Target.{Target, targetOf}
-use Rattle.lent.specs.Mounts.{Mount, mountFor, routeOf}
+use Rattle.mounts.specs.Mounts.{Mount, mountFor, routeOf}
 use Rattle.lent.specs.Lent.{Lent, lentOf}
 use Rattle.request.specs.Request.{Request, requestOf}
 use Rattle.variables.specs.Meaning.{Meaning, meaningOf}
@@ -55,9 +55,12 @@ WrittenIsAccepted =
 -- the pool's place is that of the mount's value in the mounts block: "each value, the pool"
 pub record PoolStands (mounts : List ℕ) (m : Mount) (f : Forward) : Type 0 where
   pub hs : List Header
+  pub header : Header
   pub are : parsed mounts ≡ gives hs
+  pub among : Among header hs
+  pub name : m .name ≡ header .name
   pub inside : f .poolStart + f .poolLength ≤ length mounts
-  pub value : Among (record { name = m .name; value = take (f .poolLength) (drop (f .poolStart) mounts) }) hs
+  pub pool : take (f .poolLength) (drop (f .poolStart) mounts) ≡ header .value
 
 -- .. of the mount that wins
 abbrev pub PoolIsValue : Type 0

@@ -8,7 +8,7 @@ use Rattle.octets.specs.Outcome.{Outcome, gives, then, need}
 use Rattle.scgi.specs.Grammar.{encoded}
 use Rattle.http.specs.Head.{headOf}
 use Rattle.lent.specs.Settings.{Settings}
-use Rattle.lent.specs.Mounts.{Mount, Route, mountFor, routeOf}
+use Rattle.mounts.specs.Mounts.{Mount, Route, mountFor, routeOf}
 use Rattle.lent.specs.Lent.{Lent, lentOf}
 use Rattle.request.specs.Request.{requestOf}
 use Rattle.variables.specs.Meaning.{Meaning, meaningOf}

@@ -1,29 +1,33 @@
 -- Laws of the check of what is lent, step by step, and of its answers.
 -- Assumes nothing.
-use Prim.Native.Nat.{ℕ, _≤_}
+use Prim.Native.Nat.{ℕ, _*_, _≤_}
 use Prim.{absurd}
 use mathlib.Core.Path.{_≡_, refl, sym, ap, _∙_}
-use mathlib.Core.Bool.{Bool, true, false, false≢true, not}
-use mathlib.Core.List.{List}
+use mathlib.Core.Bool.{Bool, true, false, false≢true, not, _&&_}
+use mathlib.Core.List.{List, [], _∷_}
 use mathlib.Core.Option.{Option, none, some}
 use native.Mathlib.Omega.{arith}
 use lib.Dec.{leb}
 use lib.ListN.{length}
+use borrow.Author.Tests.{leb-true, le-ltb}
 use Rattle.octets.specs.Text.{bytes}
-use Rattle.octets.specs.Outcome.{Outcome, refused, gives, then, need, given}
-use Rattle.octets.specs.Lists.{isNil, different}
+use Rattle.octets.specs.Outcome.{Outcome, refused, gives, then, given}
+use Rattle.octets.specs.Kinds.{oneOf}
+use Rattle.octets.specs.Lists.{isNil}
 use Rattle.octets.proofs.Bools.{and-false}
-use Rattle.octets.proofs.Outcomes.{need-gives, then-gives}
-use Rattle.headers.specs.Block.{Header, names, headersOf, parsed}
+use Rattle.octets.proofs.Outcomes.{gives-once, then-gives}
+use Rattle.octets.proofs.Refusals.{Refuses, with-number, not-refused, only-number, refuses-then, refuses-need, refuses-given}
+use Rattle.headers.specs.Block.{Header, headersOf}
 use Rattle.headers.specs.Lookup.{valueIn}
-use Rattle.headers.specs.Claims.{Headed}
-use Rattle.lent.specs.Settings.{filled, orIn, sought, isPort, portIn, authOf, settingsOf}
-use Rattle.lent.specs.Lent.{Lent, blockOf, allMounts, mountsOf, lentOf}
-use Rattle.lent.specs.Mounts.{placed, mountsAt}
+use Rattle.headers.proofs.Claims.{headers-few, places-inside}
+use Rattle.mounts.specs.Blocks.{blockOf, isGood, BlockGood, manyFor, lacksRoom, storedOf}
+use Rattle.mounts.specs.Mounts.{Mount, mountsOf}
+use Rattle.mounts.proofs.Claims.{blocks-hold, blocks-told, mounts-number}
+use Rattle.lent.specs.Settings.{Settings, filled, orIn, sought, isPort, portIn, authOf, settingsOf}
+use Rattle.lent.specs.Lent.{Lent, lentOf}
 use Rattle.lent.specs.Places.{settingsAt, FactInside, AuthInside, SettingsInside, factPart, FactHeld, AuthHeld, SettingsHeld, SettingsFound}
-use Rattle.lent.specs.Blocks.{lacksRoom}
-use Rattle.lent.specs.Check.{LentFound, isGood, lacksEither, LentTried}
-use Rattle.lent.specs.Claims.{LentNumber, LentMounts, Accepted, PlacesAreLent}
+use Rattle.lent.specs.Check.{LentFound, lacksEither, LentTried}
+use Rattle.lent.specs.Claims.{LentNumber, Accepted, LentTold}
 use Rattle.lent.specs.declared.check.Checked.{Checked}
 use Rattle.lent.specs.declared.check.Tried.the-variants.{Done, Full}
 use Rattle.lent.specs.declared.check.Checked.the-variants.{Lent as CheckedLent, Refused}
@@ -32,78 +36,105 @@ use Rattle.lent.specs.declared.places.AuthPlaces.{AuthPlaces}
 use Rattle.lent.specs.declared.places.AuthPlaces.the-variants.{Given, Absent}
 use Rattle.lent.specs.declared.places.SettingPlaces.{SettingPlaces}
 use Rattle.lent.specs.declared.settings.Settings.the-variants.{At as SettingsAt, Breach as SettingsBreach}
-use Rattle.headers.proofs.Claims.{places-inside}
-use Rattle.lent.proofs.BlockSteps.{block-gives, block-headed, mounts-headed, stored, is-full, has-room, is-breach, is-good, never-full}
+use Rattle.lent.proofs.Links.{lent-mounts}
 use Rattle.lent.proofs.SettingSteps.{value-inside}
+
+-- The mounts, by the test of them.
+
+pub record Mounted (mounts : List ℕ) : Type 0 where
+  pub ms : List Mount
+  pub are : mountsOf mounts ≡ gives ms
+
+good-mounts : (mounts : List ℕ) → isGood (mountsOf mounts) ≡ true → Mounted mounts
+good-mounts mounts e = by (mountsOf mounts) refl e
+  where
+    by : (o : Outcome (List Mount)) → mountsOf mounts ≡ o → isGood o ≡ true → Mounted mounts
+    by (gives ms) q r = record { ms = ms; are = q }
+    by (refused k) q r = absurd (false≢true r)
+
+bad-mounts : (mounts : List ℕ) → isGood (mountsOf mounts) ≡ false → mountsOf mounts ≡ refused 20
+bad-mounts mounts e = by (mountsOf mounts) refl e
+  where
+    by : (o : Outcome (List Mount)) → mountsOf mounts ≡ o → isGood o ≡ false → o ≡ refused 20
+    by (gives ms) q r = cc
+    by (refused k) q r = ap refused (mounts-number mounts k q)
+
+-- The check, step by step.
 
 module _ (facts site mounts : List ℕ) where
   pub wrong-facts : blockOf 1024 facts ≡ refused 20 → LentFound facts site mounts (Refused 20)
   unfolding lentOf
   wrong-facts e = record { answer = sym (rw e); places = tt }
 
-  module _ (f : parsed facts ≡ blockOf 1024 facts) where
-    facts-are : Headed facts
-    facts-are = block-headed 1024 facts f
-
+  module _ (f : BlockGood 1024 facts) where
     pub wrong-site : blockOf 1024 site ≡ refused 20 → LentFound facts site mounts (Refused 20)
     unfolding lentOf
-    wrong-site e = record { answer = sym (rw (sym f ∙ facts-are .is, e)); places = tt }
+    wrong-site e = record { answer = sym (rw (f .accepted, e)); places = tt }
 
-    module _ (g : parsed site ≡ blockOf 1024 site) where
-      site-is : Headed site
-      site-is = block-headed 1024 site g
-
-      pub wrong-mounts : refused 20 ≡ mountsOf mounts → LentFound facts site mounts (Refused 20)
+    module _ (s : BlockGood 1024 site) where
+      pub wrong-mounts : isGood (mountsOf mounts) ≡ false → LentFound facts site mounts (Refused 20)
       unfolding lentOf
-      wrong-mounts e = record { answer = sym (rw (sym f ∙ facts-are .is, sym g ∙ site-is .is, ← e)); places = tt }
+      wrong-mounts e = record { answer = sym (rw (f .accepted, s .accepted, bad-mounts mounts e)); places = tt }
 
-      module _ (h : mountsAt mounts ≡ mountsOf mounts) where
-        mounts-are : Headed mounts
-        mounts-are = mounts-headed mounts h
+      module _ (g : isGood (mountsOf mounts) ≡ true) where
+        m : Mounted mounts
+        m = good-mounts mounts g
 
         -- what is left of the chain
-        left :
-            lentOf facts site mounts
-            ≡ then (settingsOf (facts-are .hs) (site-is .hs)) (λ s. gives (record { settings = s; mounts = placed 0 (mounts-are .hs) }))
+        left : lentOf facts site mounts ≡ then (settingsOf (f .hs) (s .hs)) (λ x. gives (record { settings = x; mounts = m .ms }))
         unfolding lentOf
-        left = rw (sym f ∙ facts-are .is, sym g ∙ site-is .is, ← h, mounts-are .is)
+        left = rw (f .accepted, s .accepted, m .are)
 
         pub wrong-settings : SettingsFound facts site SettingsBreach → LentFound facts site mounts (Refused 20)
-        wrong-settings s =
-            let e : refused 20 ≡ settingsOf (facts-are .hs) (site-is .hs) = rw (facts-are .is, site-is .is) at (s .answer) in
-            record { answer = sym (left ∙ rw (← e)); places = tt }
+        wrong-settings x =
+            let e : refused 20 ≡ settingsOf (f .hs) (s .hs) = rw (f .headers, s .headers) at (x .answer) in
+            record { answer = sym (rw (left, ← e)); places = tt }
 
         pub all-lent : (p : SettingPlaces) → SettingsFound facts site (SettingsAt p) → LentFound facts site mounts (CheckedLent p)
-        all-lent p s =
-            let e : gives (settingsAt facts site p) ≡ settingsOf (facts-are .hs) (site-is .hs) = rw (facts-are .is, site-is .is) at (s .answer) in
-            record { answer = rw (mounts-are .is) (sym (left ∙ rw (← e))); places = s .places }
+        all-lent p x =
+            let e : gives (settingsAt facts site p) ≡ settingsOf (f .hs) (s .hs) = rw (f .headers, s .headers) at (x .answer) in
+            record { answer = sym (rw (left, ← e)); places = x .places }
 
 -- With lists for the places of names.
 
 module _ (n m : ℕ) (facts site mounts : List ℕ) where
-  pub facts-full : none ≡ stored facts n → LentTried n m facts site mounts Full
-  facts-full e = record { answer = rw (is-full facts n e) }
+  pub facts-full : none ≡ storedOf 1024 n facts → LentTried n m facts site mounts Full
+  facts-full e = record { answer = rw (blocks-told .full 1024 n facts e) }
 
-  pub facts-wrong : some (refused 20) ≡ stored facts n → LentTried n m facts site mounts (Done (Refused 20))
+  pub facts-wrong : some (refused 20) ≡ storedOf 1024 n facts → LentTried n m facts site mounts (Done (Refused 20))
   facts-wrong e =
-      let b = is-breach facts n e in
-      record { answer = (rw (has-room facts n (refused 20) e .0, b), wrong-facts facts site mounts b) }
+      let b = blocks-told .breach 1024 n facts e in
+      record { answer = (rw (b .0, b .1), wrong-facts facts site mounts (b .1)) }
 
-  module _ (k : ℕ) (e : some (gives k) ≡ stored facts n) where
-    good : parsed facts ≡ blockOf 1024 facts
-    good = is-good facts n k e
+  module _ (k : ℕ) (e : some (gives k) ≡ storedOf 1024 n facts) where
+    f : (lacksRoom 1024 n facts ≡ false) × BlockGood 1024 facts
+    f = blocks-told .good 1024 n facts k e
 
-    by-site : lacksEither n m facts site ≡ lacksRoom m site
-    by-site = rw (has-room facts n (gives k) e .0, ← good, block-headed 1024 facts good .is)
+    by-site : lacksEither n m facts site ≡ lacksRoom 1024 m site
+    by-site = rw (f .0, f .1 .accepted)
 
-    pub site-full : none ≡ stored site m → LentTried n m facts site mounts Full
-    site-full f = record { answer = by-site ∙ is-full site m f }
+    pub site-full : none ≡ storedOf 1024 m site → LentTried n m facts site mounts Full
+    site-full d = record { answer = by-site ∙ blocks-told .full 1024 m site d }
 
-    pub site-wrong : some (refused 20) ≡ stored site m → LentTried n m facts site mounts (Done (Refused 20))
-    site-wrong f = record { answer = (by-site ∙ has-room site m (refused 20) f .0, wrong-site facts site mounts good (is-breach site m f)) }
+    pub site-wrong : some (refused 20) ≡ storedOf 1024 m site → LentTried n m facts site mounts (Done (Refused 20))
+    site-wrong d =
+        let b = blocks-told .breach 1024 m site d in
+        record { answer = (by-site ∙ b .0, wrong-site facts site mounts (f .1) (b .1)) }
 
-    pub all-tried : (j : ℕ) → some (gives j) ≡ stored site m → (r : Checked) → LentFound facts site mounts r → LentTried n m facts site mounts (Done r)
-    all-tried j f r l = record { answer = (by-site ∙ has-room site m (gives j) f .0, l) }
+    pub all-tried : (j : ℕ) → some (gives j) ≡ storedOf 1024 m site → (r : Checked) → LentFound facts site mounts r → LentTried n m facts site mounts (Done r)
+    all-tried j d r l = record { answer = (by-site ∙ blocks-told .good 1024 m site j d .0, l) }
+
+-- room for two numbers for each header of a block of 1,024 bytes is room enough
+never-full : (b : List ℕ) (room : ℕ) → 682 ≤ room → lacksRoom 1024 room b ≡ false
+never-full b room h = tested (leb (length b) 1024) refl
+  where
+    many : (o : Option (List Header)) → headersOf b ≡ o → length b ≤ 1024 → manyFor room o ≡ false
+    many none z l = refl
+    many (some hs) z l = le-ltb room (2 * length hs) (omega (arith, headers-few b hs (ap (λ (o : Option (List Header)). given o 5) z)))
+
+    tested : (t : Bool) → leb (length b) 1024 ≡ t → t && manyFor room (headersOf b) ≡ false
+    tested true q = many (headersOf b) refl (leb-true (length b) 1024 q)
+    tested false q = refl
 
 -- lists with room for 341 headers are never full
 pub always-room : (n m : ℕ) (facts site mounts : List ℕ) → LentTried n m facts site mounts Full → 682 ≤ n → 682 ≤ m → ⊥
@@ -111,85 +142,42 @@ always-room n m facts site mounts f h g =
     let e : lacksEither n m facts site ≡ false = rw (never-full facts n h, never-full site m g) (and-false (isGood (blockOf 1024 facts))) in
     false≢true (sym e ∙ f .answer)
 
--- Of the answers.
+-- Which number the answers have.
 
--- a chain that refuses with 20 alone
-abbrev Only20 : {A : Type 0} → Outcome A → Type 0
-Only20 o = (n : ℕ) → o ≡ refused n → n ≡ 20
+-- a step that refuses with 20 alone, by a claim that says so
+only-20 : {A : Type 0} (o : Outcome A) → ((n : ℕ) → o ≡ refused n → n ≡ 20) → Refuses (20 ∷ []) o
+only-20 (gives a) h = not-refused
+only-20 (refused n) h = with-number (ap (oneOf (20 ∷ [])) (h n refl))
 
-only-gives : {A : Type 0} (a : A) → Only20 (gives a)
-only-gives a n e = cc
+filled-refuses : (v : Option (List ℕ)) → Refuses (20 ∷ []) (filled v)
+filled-refuses v = refuses-then (refuses-given v 20 refl) (λ w. refuses-need (not (isNil w)) 20 refl not-refused)
 
-only-refused : {A : Type 0} → Only20 {A = A} (refused 20)
-only-refused n e = cc
+sought-refuses : (name : List ℕ) (fs ss : List Header) → Refuses (20 ∷ []) (sought name fs ss)
+sought-refuses name fs ss = filled-refuses (orIn (valueIn name fs) (valueIn name ss))
 
-only-need : {A : Type 0} (t : Bool) (o : Outcome A) → Only20 o → Only20 (need t 20 o)
-only-need true o h n e = h n e
-only-need false o h n e = cc
+auth-refuses : (t u : Option (List ℕ)) → Refuses (20 ∷ []) (authOf t u)
+auth-refuses none none = not-refused
+auth-refuses none (some u) = with-number refl
+auth-refuses (some t) u = refuses-then (filled-refuses (some t)) (λ a. refuses-then (filled-refuses u) (λ r. not-refused))
 
-only-given : {A : Type 0} (o : Option A) → Only20 (given o 20)
-only-given none n e = cc
-only-given (some a) n e = cc
-
-only-then : {A B : Type 0} (o : Outcome A) (f : A → Outcome B) → Only20 o → ((a : A) → Only20 (f a)) → Only20 (then o f)
-only-then (refused k) f h g n e =
-    let z : k ≡ n = cc in
-    rw (← z) (h k refl)
-only-then (gives a) f h g n e = g a n e
-
-only-block : (limit : ℕ) (b : List ℕ) → Only20 (blockOf limit b)
-only-block limit b =
-    only-need (leb (length b) limit) _
-    (only-then (given (headersOf b) 20) _ (only-given (headersOf b)) (λ hs. only-need (different (names hs)) (gives hs) (only-gives hs)))
-
-only-mounts : (b : List ℕ) → Only20 (mountsOf b)
-only-mounts b =
-    only-then (blockOf 4096 b) _ (only-block 4096 b)
-    (λ ms. only-need (leb (length ms) 32) _ (only-need (allMounts ms) (gives (placed 0 ms)) (only-gives (placed 0 ms))))
-
-only-filled : (v : Option (List ℕ)) → Only20 (filled v)
-only-filled v = only-then (given v 20) _ (only-given v) (λ w. only-need (not (isNil w)) (gives w) (only-gives w))
-
-only-sought : (name : List ℕ) (fs ss : List Header) → Only20 (sought name fs ss)
-only-sought name fs ss = only-filled (orIn (valueIn name fs) (valueIn name ss))
-
-only-auth : (t u : Option (List ℕ)) → Only20 (authOf t u)
-only-auth none none = only-gives none
-only-auth none (some u) = only-refused
-only-auth (some t) u = only-then (filled (some t)) _ (only-filled (some t)) (λ a. only-then (filled u) _ (only-filled u) (λ r. only-gives _))
-
-only-settings : (fs ss : List Header) → Only20 (settingsOf fs ss)
+settings-refuse : (fs ss : List Header) → Refuses (20 ∷ []) (settingsOf fs ss)
 unfolding settingsOf
-only-settings fs ss =
-    only-then (sought (bytes "SERVER_NAME") fs ss) _ (only-sought (bytes "SERVER_NAME") fs ss) (λ name.
-    only-then (portIn fs ss) _
-    (only-then (sought (bytes "SERVER_PORT") fs ss) _ (only-sought (bytes "SERVER_PORT") fs ss) (λ port. only-need (isPort port) (gives port) (only-gives port))) (λ port.
-    only-then (sought (bytes "SERVER_SOFTWARE") fs ss) _ (only-sought (bytes "SERVER_SOFTWARE") fs ss) (λ software.
-    only-then (filled (valueIn (bytes "REMOTE_ADDR") fs)) _ (only-filled (valueIn (bytes "REMOTE_ADDR") fs)) (λ addr.
-    only-then (authOf (valueIn (bytes "AUTH_TYPE") fs) (valueIn (bytes "REMOTE_USER") fs)) _ (only-auth (valueIn (bytes "AUTH_TYPE") fs) (valueIn (bytes "REMOTE_USER") fs)) (λ auth. only-gives _)))))
+settings-refuse fs ss =
+    refuses-then (sought-refuses (bytes "SERVER_NAME") fs ss) (λ name.
+    refuses-then (refuses-then (sought-refuses (bytes "SERVER_PORT") fs ss) (λ port. refuses-need (isPort port) 20 refl not-refused)) (λ port.
+    refuses-then (sought-refuses (bytes "SERVER_SOFTWARE") fs ss) (λ software.
+    refuses-then (filled-refuses (valueIn (bytes "REMOTE_ADDR") fs)) (λ addr.
+    refuses-then (auth-refuses (valueIn (bytes "AUTH_TYPE") fs) (valueIn (bytes "REMOTE_USER") fs)) (λ auth. not-refused)))))
 
 pub lent-number : LentNumber
 unfolding lentOf
-lent-number facts site mounts =
-    only-then (blockOf 1024 facts) _ (only-block 1024 facts) (λ fs.
-    only-then (blockOf 1024 site) _ (only-block 1024 site) (λ ss.
-    only-then (mountsOf mounts) _ (only-mounts mounts) (λ ms.
-    only-then (settingsOf fs ss) _ (only-settings fs ss) (λ s. only-gives _))))
-
-pub lent-mounts : LentMounts
-unfolding lentOf
-lent-mounts facts site mounts l e =
-    let f = then-gives (blockOf 1024 facts) _ l e in
-    let s = then-gives (blockOf 1024 site) _ l (f .next) in
-    let m = then-gives (mountsOf mounts) _ l (s .next) in
-    let t = then-gives (settingsOf (f .it) (s .it)) (λ x. gives (record { settings = x; mounts = m .it })) l (m .next) in
-    let q : gives (record { settings = t .it; mounts = m .it }) ≡ gives l = t .next in
-    let r : _≡_ {A = Lent} (record { settings = t .it; mounts = m .it }) l = cc in
-    let b = then-gives (blockOf 4096 mounts) _ (m .it) (m .first) in
-    let c = need-gives (leb (length (b .it)) 32) 20 _ (m .it) (b .next) in
-    let d = need-gives (allMounts (b .it)) 20 (gives (placed 0 (b .it))) (m .it) (c .1) in
-    let y : gives (placed 0 (b .it)) ≡ gives (m .it) = d .1 in
-    rw (block-gives 4096 mounts (b .it) (b .first)) (y ∙ ap (λ (x : Lent). gives (x .mounts)) r)
+lent-number facts site mounts n e =
+    only-number n 20
+    (refuses-then (only-20 (blockOf 1024 facts) (blocks-hold .number 1024 facts)) (λ fs.
+    refuses-then (only-20 (blockOf 1024 site) (blocks-hold .number 1024 site)) (λ ss.
+    refuses-then (only-20 (mountsOf mounts) (mounts-number mounts)) (λ ms.
+    refuses-then (settings-refuse fs ss) (λ s. not-refused)))))
+    e
 
 -- The places lie in their blocks.
 
@@ -211,12 +199,21 @@ module _ (facts site : List ℕ) where
         software = value-inside facts site (bytes "SERVER_SOFTWARE") (p .software) (h .software);
       }
 
-pub places-are-lent : PlacesAreLent
-places-are-lent facts site mounts p f = by (headersOf mounts) refl (f .answer)
-  where
-    by :
-        (o : Option (List Header)) → headersOf mounts ≡ o
-        → then (then (given o 5) (λ hs. gives (placed 0 hs))) (λ ms. gives (record { settings = settingsAt facts site p; mounts = ms })) ≡ lentOf facts site mounts
-        → Accepted facts site mounts p
-    by none q e = absurd (omega (arith, lent-number facts site mounts 5 (sym e)))
-    by (some hs) q e = record { ms = placed 0 hs; mounts-are = rw q; lent = sym e; inside = settings-inside facts site p (f .places) }
+accepts : (facts site mounts : List ℕ) (p : SettingPlaces) → LentFound facts site mounts (CheckedLent p) → Accepted facts site mounts p
+accepts facts site mounts p f =
+    let g = then-gives (lentOf facts site mounts) (λ l. gives (l .settings)) _ (sym (f .answer)) in
+    let l : Lent = g .it in
+    let z : l .settings ≡ settingsAt facts site p = gives-once _ _ (g .next) in
+    record {
+      ms = l .mounts;
+      mounts-are = lent-mounts facts site mounts l (g .first);
+      lent = g .first ∙ ap (λ (s : Settings). gives (record { settings = s; mounts = l .mounts })) z;
+      inside = settings-inside facts site p (f .places);
+    }
+
+refuses : (n : ℕ) (o : Outcome Lent) → refused n ≡ then o (λ l. gives (l .settings)) → o ≡ refused n
+refuses n (refused k) e = cc
+refuses n (gives l) e = cc
+
+pub lent-told : LentTold
+lent-told = record { accepts = accepts; refuses = λ facts site mounts n f. refuses n (lentOf facts site mounts) (f .answer) }

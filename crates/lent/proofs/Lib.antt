@@ -1,7 +1,4 @@
-pub mod Mounts
-pub mod Searches
-pub mod Pools
-pub mod BlockSteps
+pub mod Links
 pub mod SettingSteps
 pub mod CheckSteps
 pub mod Proper

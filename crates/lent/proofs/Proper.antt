@@ -1,36 +1,26 @@
 -- What is lent can stand in a block: no NUL in a value or a name.
 -- Assumes nothing.
-use Prim.Native.Nat.{ℕ, _+_}
+use Prim.Native.Nat.{ℕ}
 use Prim.{absurd}
 use mathlib.Core.Path.{_≡_, ap, _∙_}
 use mathlib.Core.Bool.{Bool, true, false, cond, not}
 use mathlib.Core.List.{List, [], _∷_}
 use mathlib.Core.Option.{Option, none, some}
 use native.Mathlib.Omega.{arith}
-use lib.Dec.{leb}
-use lib.ListN.{length}
 use Rattle.octets.specs.Text.{bytes}
 use Rattle.octets.specs.Outcome.{gives, given}
 use Rattle.octets.specs.Compare.{sameBytes}
-use Rattle.octets.specs.Lists.{All, no-more, _&_, NoNul, isNil, different}
+use Rattle.octets.specs.Lists.{All, no-more, _&_, NoNul, isNil}
 use Rattle.octets.proofs.Outcomes.{need-gives, given-gives, gives-once, then-gives}
-use Rattle.headers.specs.Block.{Header, names, headersOf, parsed, Proper}
+use Rattle.headers.specs.Block.{Header, Proper}
 use Rattle.headers.specs.Lookup.{valueIn}
 use Rattle.headers.proofs.Claims.{headers-proper}
-use Rattle.lent.specs.Mounts.{Mount, placed, mountsAt}
+use Rattle.mounts.specs.Mounts.{Mount}
+use Rattle.mounts.specs.Claims.{Each, none-left, one-more}
+use Rattle.mounts.proofs.Claims.{mounts-are-headers}
 use Rattle.lent.specs.Settings.{Auth, Settings, filled, orIn, sought, isPort, portIn, authOf, settingsOf}
-use Rattle.lent.specs.Lent.{Lent, blockOf, mountsOf, lentOf}
 use Rattle.lent.specs.Claims.{ProperAuth, neither, both, ProperSettings, LentIsProper}
-use Rattle.lent.proofs.CheckSteps.{lent-mounts}
-
--- Blocks.
-
-block-proper : (limit : ℕ) (block : List ℕ) (hs : List Header) → blockOf limit block ≡ gives hs → All Proper hs
-block-proper limit block hs e =
-    let a = need-gives (leb (length block) limit) 20 _ hs e in
-    let b = then-gives (given (headersOf block) 20) _ hs (a .1) in
-    let c = need-gives (different (names (b .it))) 20 (gives (b .it)) hs (b .next) in
-    headers-proper block hs (ap (λ (o : Option (List Header)). given o 5) (given-gives (headersOf block) 20 (b .it) (b .first)) ∙ c .1)
+use Rattle.lent.proofs.Links.{links}
 
 -- Values.
 
@@ -106,27 +96,16 @@ module _ (facts site : List Header) (pf : All Proper facts) (ps : All Proper sit
 
 -- Mounts.
 
-names-placed : (i : ℕ) (hs : List Header) → All Proper hs → All (λ m. NoNul (m .name)) (placed i hs)
-unfolding placed
-names-placed i [] no-more = no-more
-names-placed i (h ∷ hs) (p & ps) = p .name-bytes & names-placed (i + length (h .name) + 1 + length (h .value) + 1) hs ps
-
-mounts-proper : (block : List ℕ) (ms : List Mount) → mountsAt block ≡ gives ms → All (λ m. NoNul (m .name)) ms
-mounts-proper block ms e =
-    let g = then-gives (parsed block) (λ hs. gives (placed 0 hs)) ms e in
-    rw (← gives-once (placed 0 (g .it)) ms (g .next)) (names-placed 0 (g .it) (headers-proper block (g .it) (g .first)))
+mounts-proper : {block : List ℕ} {ms : List Mount} {hs : List Header} → Each block ms hs → All (λ m. NoNul (m .name)) ms
+mounts-proper none-left = no-more
+mounts-proper (one-more m ms) = m .no-nul & mounts-proper ms
 
 pub lent-is-proper : LentIsProper
-unfolding lentOf
 lent-is-proper facts site mounts l e =
-    let a = then-gives (blockOf 1024 facts) _ l e in
-    let b = then-gives (blockOf 1024 site) _ l (a .next) in
-    let c = then-gives (mountsOf mounts) _ l (b .next) in
-    let d = then-gives (settingsOf (a .it) (b .it)) _ l (c .next) in
-    let z : record { settings = d .it; mounts = c .it } ≡ l = gives-once _ l (d .next) in
+    let k = links facts site mounts l e in
+    let f = headers-proper facts (k .fs) (k .facts-hold .headers) in
+    let s = headers-proper site (k .ss) (k .site-holds .headers) in
     record {
-      settings =
-          settings-proper (a .it) (b .it) (block-proper 1024 facts (a .it) (a .first)) (block-proper 1024 site (b .it) (b .first)) (l .settings)
-          (d .first ∙ ap (λ (x : Lent). gives (x .settings)) z);
-      mounts = mounts-proper mounts (l .mounts) (lent-mounts facts site mounts l e);
+      settings = settings-proper (k .fs) (k .ss) f s (l .settings) (k .settings);
+      mounts = mounts-proper (mounts-are-headers mounts (l .mounts) (k .mounts-are) .each);
     }

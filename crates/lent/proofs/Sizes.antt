@@ -6,21 +6,19 @@ use mathlib.Core.Bool.{not}
 use mathlib.Core.List.{List, [], _∷_}
 use mathlib.Core.Option.{Option, none, some}
 use native.Mathlib.Omega.{arith}
-use lib.Dec.{leb}
 use lib.ListN.{length}
-use borrow.Author.Tests.{leb-true}
 use Rattle.octets.specs.Text.{bytes}
 use Rattle.octets.specs.Outcome.{gives, given}
 use Rattle.octets.specs.Compare.{sameBytes}
 use Rattle.octets.specs.Lists.{isNil, isIn, different}
 use Rattle.octets.proofs.Outcomes.{need-gives, given-gives, gives-once, then-gives}
-use Rattle.headers.specs.Block.{Header, names, headersOf, parsed}
+use Rattle.headers.specs.Block.{Header}
 use Rattle.headers.specs.Lookup.{valueIn}
 use Rattle.headers.specs.Sizes.{sizeOf, sizesOf}
 use Rattle.headers.proofs.Claims.{values-fit}
 use Rattle.lent.specs.Settings.{Auth, Settings, filled, orIn, sought, isPort, portIn, authOf, settingsOf}
-use Rattle.lent.specs.Lent.{Lent, blockOf, mountsOf, lentOf}
 use Rattle.lent.specs.Claims.{authSize, settingsSize, SettingsFit}
+use Rattle.lent.proofs.Links.{links}
 
 -- One value.
 
@@ -77,28 +75,14 @@ settings-size facts site s e =
     let m = auth-size (valueIn (bytes "AUTH_TYPE") facts) (valueIn (bytes "REMOTE_USER") facts) (i .it) (i .first) in
     omega (arith, ap settingsSize z, ap length port, ap (sizeOf (bytes "REMOTE_ADDR")) addr)
 
-block-read : (limit : ℕ) (block : List ℕ) (hs : List Header) → blockOf limit block ≡ gives hs → (length block ≤ limit) × (parsed block ≡ gives hs)
-block-read limit block hs e =
-    let a = need-gives (leb (length block) limit) 20 _ hs e in
-    let b = then-gives (given (headersOf block) 20) _ hs (a .1) in
-    let c = need-gives (different (names (b .it))) 20 (gives (b .it)) hs (b .next) in
-    (leb-true (length block) limit (a .0), ap (λ (o : Option (List Header)). given o 5) (given-gives (headersOf block) 20 (b .it) (b .first)) ∙ c .1)
-
 pub settings-fit : SettingsFit
-unfolding lentOf different isIn sameBytes factNames siteNames
+unfolding different isIn sameBytes factNames siteNames
 settings-fit facts site mounts l e =
-    let a = then-gives (blockOf 1024 facts) _ l e in
-    let b = then-gives (blockOf 1024 site) _ l (a .next) in
-    let c = then-gives (mountsOf mounts) _ l (b .next) in
-    let d = then-gives (settingsOf (a .it) (b .it)) _ l (c .next) in
-    let z : record { settings = d .it; mounts = c .it } ≡ l = gives-once _ l (d .next) in
-    let x = block-read 1024 facts (a .it) (a .first) in
-    let y = block-read 1024 site (b .it) (b .first) in
-    let i = values-fit facts (a .it) factNames (x .1) refl in
-    let j = values-fit site (b .it) siteNames (y .1) refl in
-    let k = settings-size (a .it) (b .it) (d .it) (d .first) in
+    let k = links facts site mounts l e in
+    let i = values-fit facts (k .fs) factNames (k .facts-hold .headers) refl in
+    let j = values-fit site (k .ss) siteNames (k .site-holds .headers) refl in
     record {
-      size = omega (arith, ap (λ (w : Lent). settingsSize (w .settings)) z);
-      facts-limit = x .0;
-      site-limit = y .0;
+      size = omega (arith, i, j, settings-size (k .fs) (k .ss) (l .settings) (k .settings));
+      facts-limit = k .facts-hold .within;
+      site-limit = k .site-holds .within;
     }

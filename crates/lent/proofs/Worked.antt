@@ -7,19 +7,18 @@ use mathlib.Core.List.{List, [], _∷_, map}
 use mathlib.Core.Option.{none, some}
 use lib.ListN.{replicate}
 use Rattle.octets.specs.Text.{bytes, barred}
-use Rattle.octets.specs.Outcome.{Outcome, refused, gives, then}
+use Rattle.octets.specs.Outcome.{Outcome, refused, gives}
 use Rattle.octets.specs.Kinds.{isDigit}
 use Rattle.octets.specs.Compare.{sameBytes}
 use Rattle.octets.specs.Lists.{isIn, different}
 use Rattle.octets.specs.Decimal.{numberFrom}
-use Rattle.octets.specs.Scan.{count}
 use Rattle.octets.specs.Parts.{parted}
 use Rattle.headers.specs.Block.{Header, paired, printed}
 use Rattle.headers.specs.Lookup.{valueIn}
+use Rattle.mounts.specs.Blocks.{blockOf}
+use Rattle.mounts.specs.Mounts.{Mount, begins, ends, mountsFrom, mountsOf}
 use Rattle.lent.specs.Settings.{Settings, settingsOf}
-use Rattle.lent.specs.Mounts.{Mount, placed, mountsAt, Route, begins, mountOf, mountFor, routeOf, shortened, mountNamed, triedIn}
-use Rattle.lent.specs.Search.{searchOf}
-use Rattle.lent.specs.Lent.{Lent, ends, allMounts, blockOf, mountsOf, lentOf}
+use Rattle.lent.specs.Lent.{Lent, lentOf}
 
 -- What is lent.
 
@@ -100,75 +99,23 @@ breaches =
     ∷ record { facts = "REMOTE_ADDR|a|AUTH_TYPE|t|"; site = "REMOTE_USER|u|SERVER_NAME|n|SERVER_PORT|80|SERVER_SOFTWARE|g|"; mounts = "" }
     ∷ record { facts = "REMOTE_ADDR|a|REMOTE_USER|u|"; site = "AUTH_TYPE|t|SERVER_NAME|n|SERVER_PORT|80|SERVER_SOFTWARE|g|"; mounts = "" }
     ∷ record { facts = "REMOTE_ADDR|a|AUTH_TYPE|t|REMOTE_USER||"; site = "SERVER_NAME|n|SERVER_PORT|80|SERVER_SOFTWARE|g|"; mounts = "" }
-    ∷ record { facts = "REMOTE_ADDR|a|"; site = "SERVER_NAME|n|SERVER_PORT|80|SERVER_SOFTWARE|g|"; mounts = "/|p|" }
-    ∷ record { facts = "REMOTE_ADDR|a|"; site = "SERVER_NAME|n|SERVER_PORT|80|SERVER_SOFTWARE|g|"; mounts = "/a/|p|" }
-    ∷ record { facts = "REMOTE_ADDR|a|"; site = "SERVER_NAME|n|SERVER_PORT|80|SERVER_SOFTWARE|g|"; mounts = "a|p|" }
     ∷ record { facts = "REMOTE_ADDR|a|"; site = "SERVER_NAME|n|SERVER_PORT|80|SERVER_SOFTWARE|g|"; mounts = "/a||" }
-    ∷ record { facts = "REMOTE_ADDR|a|"; site = "SERVER_NAME|n|SERVER_PORT|80|SERVER_SOFTWARE|g|"; mounts = "/a|p|/a|q|" }
     ∷ []
 
 pub all-right : map (λ c. lentOf (barred (c .facts)) (barred (c .site)) (barred (c .mounts))) cases ≡ map (λ c. c .answer) cases
-unfolding cases lentOf settingsOf placed begins ends allMounts valueIn parted paired different isIn sameBytes numberFrom isDigit
+unfolding cases lentOf mountsOf mountsFrom settingsOf begins ends valueIn parted paired different isIn sameBytes numberFrom isDigit
 all-right = refl
 
 pub all-breaches : map (λ c. lentOf (barred (c .facts)) (barred (c .site)) (barred (c .mounts))) breaches ≡ map (λ c. refused 20) breaches
-unfolding breaches lentOf settingsOf begins ends allMounts valueIn parted paired different isIn sameBytes numberFrom isDigit
+unfolding breaches lentOf mountsOf mountsFrom settingsOf begins ends valueIn parted paired different isIn sameBytes numberFrom isDigit
 all-breaches = refl
 
--- Mounts.
-
-pub record Path : Type 0 where
-  pub path : String
-  pub answer : Outcome Route
-
-abbrev pub to : String → String → Outcome Route
-to name rest = gives (record { scriptName = bytes name; pathInfo = bytes rest })
-
-unfoldable pub paths : List Path
-paths =
-    record { path = "/jobs"; answer = to "/jobs" "" }
-    ∷ record { path = "/jobs/7"; answer = to "/jobs" "/7" }
-    ∷ record { path = "/jobs/"; answer = to "/jobs" "/" }
-    ∷ record { path = "/jobs//x"; answer = to "/jobs" "//x" }
-    ∷ record { path = "/jobsx"; answer = refused 19 }
-    ∷ record { path = "/jobs/old"; answer = to "/jobs/old" "" }
-    ∷ record { path = "/jobs/old/7"; answer = to "/jobs/old" "/7" }
-    ∷ record { path = "/jobs/older"; answer = to "/jobs" "/older" }
-    ∷ record { path = "/job"; answer = refused 19 }
-    ∷ record { path = "/"; answer = refused 19 }
-    ∷ []
-
-abbrev pub mounted : List ℕ
-mounted = barred "/jobs|p|/jobs/old|q|"
-
-abbrev pub routed : String → Outcome Route
-routed p = then (mountsAt mounted) (λ ms. then (mountFor ms (bytes p)) (λ m. gives (routeOf m (bytes p))))
-
-pub paths-right : map (λ c. routed (c .path)) paths ≡ map (λ c. c .answer) paths
-unfolding paths placed mountOf begins sameBytes parted paired
-paths-right = refl
-
--- the pool is a place in the block: of two equal pools that of the mount that wins, behind its name
-pub pools-right :
-    (searchOf (barred "/a|x|/b|x|") (bytes "/b") ≡ gives (record { nameLength = 2; poolStart = 8; poolLength = 1 }))
-    × (searchOf (barred "/jobs|j|") (bytes "/jobs/7") ≡ gives (record { nameLength = 5; poolStart = 6; poolLength = 1 }))
-unfolding placed triedIn mountNamed shortened count sameBytes parted paired
-pools-right = (refl, refl)
-
--- The limits, on blocks that are too long to write out.
+-- The limit, on blocks that are too long to write out.
 
 -- a header of n + 3 bytes
 abbrev pub filler : ℕ → List Header
 filler n = record { name = bytes "A"; value = replicate n 66 } ∷ []
 
--- a mount for each letter
-abbrev pub letters : String → List Header
-letters t = map (λ b. record { name = 47 ∷ b ∷ []; value = b ∷ [] }) (bytes t)
-
-pub limits :
-    (blockOf 1024 (printed (filler 1021)) ≡ gives (filler 1021))
-    × (blockOf 1024 (printed (filler 1022)) ≡ refused 20)
-    × (mountsOf (printed (letters "ABCDEFGHIJKLMNOPQRSTUVWXYZabcdef")) ≡ gives (placed 0 (letters "ABCDEFGHIJKLMNOPQRSTUVWXYZabcdef")))
-    × (mountsOf (printed (letters "ABCDEFGHIJKLMNOPQRSTUVWXYZabcdefg")) ≡ refused 20)
-unfolding printed placed begins ends allMounts parted paired different isIn sameBytes
-limits = (refl, refl, refl, refl)
+pub limits : (blockOf 1024 (printed (filler 1021)) ≡ gives (filler 1021)) × (blockOf 1024 (printed (filler 1022)) ≡ refused 20)
+unfolding printed parted paired different isIn sameBytes
+limits = (refl, refl)

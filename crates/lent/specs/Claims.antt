@@ -2,56 +2,18 @@
 -- Assumes nothing.
 use Prim.Native.Nat.{ℕ, _+_, _≤_}
 use mathlib.Core.Path.{_≡_}
-use mathlib.Core.Bool.{true, false}
-use mathlib.Core.List.{List, _∷_, _++_, map}
+use mathlib.Core.List.{List}
 use mathlib.Core.Option.{Option, none, some}
-use lib.ListN.{length, take, drop}
+use lib.ListN.{length}
 use Rattle.octets.specs.Outcome.{refused, gives}
 use Rattle.octets.specs.Lists.{All, NoNul}
-use Rattle.headers.specs.Block.{Header, parsed}
+use Rattle.mounts.specs.Mounts.{Mount, mountsOf}
 use Rattle.lent.specs.Settings.{Auth, Settings}
 use Rattle.lent.specs.Lent.{Lent, lentOf}
-use Rattle.lent.specs.Mounts.{Mount, placed, mountsAt, fits, mountOf, tried, routeOf}
 use Rattle.lent.specs.Places.{settingsAt, SettingsInside}
 use Rattle.lent.specs.Check.{LentFound}
 use Rattle.lent.specs.declared.places.SettingPlaces.{SettingPlaces}
-use Rattle.lent.specs.declared.check.Checked.the-variants.{Lent as CheckedLent}
-
--- the header whose value is a mount's pool, by the bytes at the pool's place
-abbrev pub headerAt : List ℕ → Mount → Header
-headerAt block m = record { name = m .name; value = take (m .poolLength) (drop (m .poolStart) block) }
-
--- "each value, the pool": the mounts of a block are its headers one by one, and the pools lie in the block
-pub record PoolsAreValues : Type 0 where
-  pub values : (block : List ℕ) (hs : List Header) → parsed block ≡ gives hs → map (headerAt block) (placed 0 hs) ≡ hs
-  pub inside : (block : List ℕ) (ms : List Mount) → mountsAt block ≡ gives ms → All (λ m. m .poolStart + m .poolLength ≤ length block) ms
-
--- x is one of the mounts
-pub data Among (x : Mount) : List Mount → Type 0 where
-  here : {ms : List Mount} → Among x (x ∷ ms)
-  later : {m : Mount} {ms : List Mount} → Among x ms → Among x (m ∷ ms)
-
--- m is one of the mounts, fits, and no mount that fits has a longer name
-pub record Longest (ms : List Mount) (path : List ℕ) (m : Mount) : Type 0 where
-  pub among : Among m ms
-  pub it-fits : fits (m .name) path ≡ true
-  pub longest : All (λ o. fits (o .name) path ≡ true → length (o .name) ≤ length (m .name)) ms
-
--- "the longest mount that fits wins", and where none wins none fits
-pub record MountIsLongest : Type 0 where
-  pub wins : (ms : List Mount) (path : List ℕ) (m : Mount) → mountOf ms path ≡ some m → Longest ms path m
-  pub none-fits : (ms : List Mount) (path : List ℕ) → mountOf ms path ≡ none → All (λ o. fits (o .name) path ≡ false) ms
-
--- trying the path, then the path without its last segment, and so on, no more than one path more than the path has slashes, finds the mount
--- that wins: "the longest mount that fits wins"
-abbrev pub LongestWins : Type 0
-LongestWins = (ms : List Mount) (path : List ℕ) → tried ms path ≡ mountOf ms path
-
--- SCRIPT_NAME and PATH_INFO are the path again: "PATH_INFO the rest"
-abbrev pub RouteIsPath : Type 0
-RouteIsPath =
-    (ms : List Mount) (path : List ℕ) (m : Mount) → mountOf ms path ≡ some m
-    → routeOf m path .scriptName ++ routeOf m path .pathInfo ≡ path
+use Rattle.lent.specs.declared.check.Checked.the-variants.{Lent as CheckedLent, Refused}
 
 -- what the form of the blocks gives, "name, NUL, value, NUL": no NUL in a value or a name
 pub data ProperAuth : Option Auth → Type 0 where
@@ -101,15 +63,17 @@ LentNumber = (facts site mounts : List ℕ) (n : ℕ) → lentOf facts site moun
 
 -- the mounts that are lent are those of their block
 abbrev pub LentMounts : Type 0
-LentMounts = (facts site mounts : List ℕ) (l : Lent) → lentOf facts site mounts ≡ gives l → mountsAt mounts ≡ gives (l .mounts)
+LentMounts = (facts site mounts : List ℕ) (l : Lent) → lentOf facts site mounts ≡ gives l → mountsOf mounts ≡ gives (l .mounts)
 
 -- what is lent, where the code gives places; they lie in their blocks
 pub record Accepted (facts site mounts : List ℕ) (p : SettingPlaces) : Type 0 where
   pub ms : List Mount
-  pub mounts-are : mountsAt mounts ≡ gives ms
+  pub mounts-are : mountsOf mounts ≡ gives ms
   pub lent : lentOf facts site mounts ≡ gives (record { settings = settingsAt facts site p; mounts = ms })
   pub inside : SettingsInside facts site p
 
-abbrev pub PlacesAreLent : Type 0
-PlacesAreLent =
-    (facts site mounts : List ℕ) (p : SettingPlaces) → LentFound facts site mounts (CheckedLent p) → Accepted facts site mounts p
+-- what the check's answer says of what is lent
+pub record LentTold : Type 0 where
+  pub accepts :
+      (facts site mounts : List ℕ) (p : SettingPlaces) → LentFound facts site mounts (CheckedLent p) → Accepted facts site mounts p
+  pub refuses : (facts site mounts : List ℕ) (n : ℕ) → LentFound facts site mounts (Refused n) → lentOf facts site mounts ≡ refused n

@@ -11,7 +11,7 @@ use Rattle.octets.specs.Lists.{isNil}
 use Rattle.octets.specs.Decimal.{numberOf}
 use Rattle.headers.specs.Block.{Header}
 use Rattle.headers.specs.Lookup.{valueIn}
-use Rattle.lent.specs.Mounts.{begins}
+use Rattle.mounts.specs.Mounts.{begins}
 
 -- AUTH_TYPE and REMOTE_USER: "the other two both there and not empty, or both absent"
 pub record Auth : Type 0 where

@@ -6,7 +6,7 @@ use mathlib.Core.List.{List, _++_, append-assoc, map}
 use mathlib.Core.Option.{Option}
 use Rattle.headers.specs.Block.{printed}
 use Rattle.lent.specs.Settings.{Settings}
-use Rattle.lent.specs.Mounts.{Route}
+use Rattle.mounts.specs.Mounts.{Route}
 use Rattle.lent.specs.Places.{authAt, settingsAt}
 use Rattle.targets.specs.Target.{queryOf}
 use Rattle.request.specs.RequestRead.{pathIn, partIf}

@@ -18,7 +18,7 @@ use Rattle.headers.specs.Block.{names}
 use Rattle.http.specs.Fields.{Field}
 use Rattle.http.specs.Claims.{Clean}
 use Rattle.lent.specs.Settings.{Settings}
-use Rattle.lent.specs.Mounts.{Route}
+use Rattle.mounts.specs.Mounts.{Route}
 use Rattle.lent.specs.Claims.{ProperSettings}
 use Rattle.request.specs.Request.{Request, requestOf}
 use Rattle.request.specs.Claims.{Obeys}

@@ -16,7 +16,7 @@ use Rattle.octets.proofs.Names.{different-append}
 use Rattle.headers.specs.Block.{Header, names}
 use Rattle.http.specs.Fields.{Field}
 use Rattle.lent.specs.Settings.{Auth, Settings}
-use Rattle.lent.specs.Mounts.{Route}
+use Rattle.mounts.specs.Mounts.{Route}
 use Rattle.variables.specs.Meaning.{Meaning}
 use Rattle.variables.specs.Variables.{variableByte, httpName, httpVariable, fixed, variables}
 use Rattle.variables.specs.Claims.{isLowerName, ProperField, fieldNames}

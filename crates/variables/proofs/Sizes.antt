@@ -22,7 +22,7 @@ use Rattle.http.specs.Claims.{fieldsSize}
 use Rattle.http.proofs.Claims.{head-holds}
 use Rattle.targets.specs.Target.{queryOf}
 use Rattle.lent.specs.Settings.{Auth, Settings}
-use Rattle.lent.specs.Mounts.{Route}
+use Rattle.mounts.specs.Mounts.{Route}
 use Rattle.lent.specs.Claims.{settingsSize}
 use Rattle.request.specs.Named.{lowered, valuesOf, firstOf}
 use Rattle.request.proofs.Claims.{requests-obey}

@@ -18,7 +18,7 @@ use Rattle.headers.specs.Block.{Header, Proper}
 use Rattle.headers.specs.Lookup.{valueIn}
 use Rattle.http.specs.Fields.{Field}
 use Rattle.lent.specs.Settings.{Auth, Settings}
-use Rattle.lent.specs.Mounts.{Route}
+use Rattle.mounts.specs.Mounts.{Route}
 use Rattle.lent.specs.Claims.{ProperAuth, neither, both, ProperSettings}
 use Rattle.variables.specs.Meaning.{Meaning}
 use Rattle.variables.specs.Variables.{ifPresent, present, authTypeOf, remoteUserOf, httpVariable, fixed, variables}

@@ -5,7 +5,7 @@ use mathlib.Core.List.{List, [], _++_, map}
 use lib.ListN.{length, take, drop}
 use Rattle.octets.specs.Copy.{Wrote}
 use Rattle.headers.specs.Block.{printed}
-use Rattle.lent.specs.Mounts.{Route}
+use Rattle.mounts.specs.Mounts.{Route}
 use Rattle.lent.specs.Places.{settingsAt, SettingsInside}
 use Rattle.request.specs.RequestRead.{lineIn, pathIn, fieldsIn, LineKnown, FieldsKnown}
 use Rattle.variables.specs.Meaning.{Meaning, meaningOf}

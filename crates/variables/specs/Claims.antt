@@ -15,7 +15,7 @@ use Rattle.headers.specs.Block.{Header, Proper, names, printed}
 use Rattle.http.specs.Fields.{Field}
 use Rattle.targets.specs.Target.{queryOf}
 use Rattle.lent.specs.Settings.{Settings}
-use Rattle.lent.specs.Mounts.{Route}
+use Rattle.mounts.specs.Mounts.{Route}
 use Rattle.lent.specs.Claims.{ProperSettings, settingsSize}
 use Rattle.request.specs.Request.{Request, requestOf}
 use Rattle.variables.specs.Meaning.{Meaning, meaningOf}

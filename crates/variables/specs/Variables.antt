@@ -14,7 +14,7 @@ use Rattle.headers.specs.Block.{Header}
 use Rattle.http.specs.Fields.{Field}
 use Rattle.targets.specs.Target.{queryOf}
 use Rattle.lent.specs.Settings.{Auth, Settings}
-use Rattle.lent.specs.Mounts.{Route}
+use Rattle.mounts.specs.Mounts.{Route}
 use Rattle.variables.specs.Meaning.{Meaning}
 
 -- a variable, and one in brackets: "a bracket meaning "if present""

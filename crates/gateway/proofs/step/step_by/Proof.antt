@@ -15,14 +15,14 @@ use Rattle.http.specs.Head.{headOf, headOutcome}
 use Rattle.http.specs.declared.head.Head.{Head}
 use Rattle.http.specs.Claims.{HeadWithin}
 use Rattle.http.proofs.Claims.{heads-hold}
-use Rattle.lent.specs.Check.{lentOutcome}
 use Rattle.lent.specs.Lent.{Lent}
-use Rattle.lent.specs.Mounts.{Mount, routeOf}
-use Rattle.lent.specs.Search.{mountOutcome}
+use Rattle.mounts.specs.Mounts.{Mount, routeOf}
+use Rattle.mounts.specs.Blocks.{isGood}
+use Rattle.mounts.specs.Search.{mountOutcome}
 use Rattle.lent.specs.Claims.{Accepted}
 use Rattle.lent.specs.Places.{settingsAt}
 use Rattle.lent.specs.declared.places.SettingPlaces.{SettingPlaces}
-use Rattle.lent.proofs.Claims.{places-are-lent}
+use Rattle.lent.proofs.Claims.{lent-told}
 use Rattle.request.specs.Request.{Request}
 use Rattle.request.specs.RequestRead.{requestIn}
 use Rattle.request.specs.declared.read.LinePlaces.{LinePlaces}
@@ -37,7 +37,7 @@ use Rattle.gateway.specs.Step.{Forward, forwardBy, stepOf}
 use Rattle.gateway.specs.Write.{blockFor, RequestFits}
 use Rattle.gateway.specs.Stepping.{Stepped, steppingBy, PathFits}
 use Rattle.gateway.specs.declared.step.Stepping.the-variants.{Refused}
-use Rattle.gateway.proofs.StepParts.{left-alone, step-lent, step-head, step-read, step-mount, step-body, step-written, answered-by, mounts-formed, mountBy, lost, Won, won, body-refused, BodyThere, body-there, block-is, fields-count}
+use Rattle.gateway.proofs.StepParts.{left-alone, step-lent, step-head, step-read, step-mount, step-body, step-written, answered-by, mountBy, lost, Won, won, body-refused, BodyThere, body-there, block-is, fields-count}
 use Rattle.gateway.proofs.Fits.{bound-holds, bound-limit}
 use Rattle.gateway.proofs.step.step_by.Statement.{statement}
 use Rattle.gateway.proofs.step.step_by.Tie as tie
@@ -109,7 +109,7 @@ used c = c .before .b .given .0 .0
 -- What is known there.
 
 lent : (c : tie.After-known-told) → (let a = start₁ c .args in Accepted (a .facts .now) (a .site .now) (a .mounts .now) (settings c))
-lent c = places-are-lent _ _ _ _ (rw (c .before .c .given .1) at (c .before .before .before .check .ensures))
+lent c = lent-told .accepts _ _ _ _ (rw (c .before .c .given .1) at (c .before .before .before .check .ensures))
 
 abbrev lending : tie.After-known-told → Lent
 lending c = record { settings = settingsAt (start₁ c .args .facts .now) (start₁ c .args .site .now) (settings c); mounts = lent c .ms }
@@ -235,9 +235,8 @@ number-requires c κs = search needs
 returns : tie.Need-returns
 returns c =
     let e = c .before .enum-told .given .1 in
-    let a = c .before .before .before .before .before .before .before .before .before .before .args in
-    rw (c .number .ensures, e)
-    (refuses (c .before .before .before .before .before .before .before .before .before .before) _ (step-lent _ _ _ _ _ _ (sym (c .before .before .before .check .ensures .answer) ∙ ap (lentOutcome (a .facts .now) (a .site .now) (a .mounts .now)) e)))
+    let w = lent-told .refuses _ _ _ _ (rw e at (c .before .before .before .check .ensures)) in
+    rw (c .number .ensures, e) (refuses (c .before .before .before .before .before .before .before .before .before .before) _ (step-lent _ _ _ _ _ _ w))
 
 enum-known-h : tie.Need-enum-known-h
 enum-known-h c = search needs
@@ -297,8 +296,7 @@ slice-aggregate-search c = sym (length-take-le _ _ (read (c .before) .line .deco
 
 search-requires : tie.Need-search-requires
 search-requires c κs =
-    let l = lent (lent₂ (head₃ (c .before))) in
-    mounts-formed _ (l .ms) (l .mounts-are)
+    ap isGood (lent (lent₂ (head₃ (c .before))) .mounts-are)
 
 enum-known-m : tie.Need-enum-known-m
 enum-known-m c = search needs

@@ -1,26 +1,38 @@
 -- `lent::check::check_by` meets its contract.
 -- Assumes nothing.
-use mathlib.Core.Path.{ap, _∙_}
-use Rattle.lent.specs.Blocks.{BlockFound}
-use Rattle.lent.specs.declared.blocks.Named.the-variants.{Headers}
-use Rattle.lent.specs.declared.blocks.Storing.the-variants.{Done}
-use Rattle.lent.proofs.BlockSteps.{said, named}
+use Prim.Native.Nat.{ℕ}
+use mathlib.Core.List.{List}
+use lib.ListN.{length}
+use mathlib.Core.Path.{_≡_, ap, subst, _∙_}
+use Rattle.mounts.specs.Blocks.{BlockFound}
+use Rattle.mounts.specs.declared.blocks.Named.the-variants.{Headers}
+use Rattle.mounts.specs.declared.blocks.Storing.{Storing}
+use Rattle.mounts.specs.declared.blocks.Storing.the-variants.{Done}
+use Rattle.mounts.proofs.Claims.{blocks-told}
+use Rattle.lent.specs.Check.{BlockNamed}
 use Rattle.lent.proofs.CheckSteps.{facts-full, facts-wrong, site-full, site-wrong, all-tried}
 use borrow.Author.Needs.{needs}
 use Rattle.lent.proofs.check.check_by.Statement.{statement}
 use Rattle.lent.proofs.check.check_by.Tie as tie
 
+-- what was found, by the answer
+said : {b before after : List ℕ} {r q : Storing} → BlockFound 1024 b before after r → r ≡ q → BlockFound 1024 b before after q
+said {b} {before} {after} f e = subst (BlockFound 1024 b before after) e f
+
+named : {b before after : List ℕ} {n : ℕ} → BlockFound 1024 b before after (Done (Headers n)) → BlockNamed b after n
+named {b} {before} {after} {n} f = record { good = blocks-told .good 1024 (length before) b n (f .answer) .1; stored = f .stored }
+
 -- the blocks, where their names are stored
 facts-said :
     (c : tie.After-known-told2)
     → (let a = c .before .before .before .before .before .before .before .before .before .before .before .before .before .before .before .args in
-    BlockFound (a .facts .now) (a .facts-names .now) (c .before .before .before .before .before .before .before .before .store-block .last .1 .0) (Done (Headers (c .before .a .given .0 .0))))
+    BlockFound 1024 (a .facts .now) (a .facts-names .now) (c .before .before .before .before .before .before .before .before .store-block .last .1 .1 .0) (Done (Headers (c .before .a .given .0 .0))))
 facts-said c = said (c .before .before .before .before .before .before .before .before .store-block .ensures) (c .before .before .before .before .f .given .1 ∙ ap Done (c .before .a .given .1))
 
 site-said :
     (c : tie.After-known-told4)
     → (let a = c .before .before .before .before .before .before .before .before .before .before .before .before .before .before .before .before .before .before .before .before .before .before .before .before .before .args in
-    BlockFound (a .site .now) (a .site-names .now) (c .before .before .before .before .before .before .before .before .store-block2 .last .1 .0) (Done (Headers (c .before .b .given .0 .0))))
+    BlockFound 1024 (a .site .now) (a .site-names .now) (c .before .before .before .before .before .before .before .before .store-block2 .last .1 .1 .0) (Done (Headers (c .before .b .given .0 .0))))
 site-said c = said (c .before .before .before .before .before .before .before .before .store-block2 .ensures) (c .before .before .before .before .s .given .1 ∙ ap Done (c .before .b .given .1))
 
 store-block-requires : tie.Need-store-block-requires

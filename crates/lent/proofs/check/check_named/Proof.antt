@@ -1,17 +1,18 @@
 -- `lent::check::check_named` meets its contract.
 -- Assumes nothing.
-use mathlib.Core.Path.{_≡_}
+use mathlib.Core.Path.{_≡_, sym, _∙_}
+use mathlib.Core.Bool.{true}
 use borrow.Author.Tests.{not-true, not-false}
-use Rattle.lent.specs.Mounts.{mountsAt}
-use Rattle.lent.specs.Lent.{mountsOf}
+use Rattle.mounts.specs.Blocks.{isGood}
+use Rattle.mounts.specs.Mounts.{mountsOf}
 use Rattle.lent.proofs.CheckSteps.{wrong-mounts, wrong-settings, all-lent}
 use borrow.Author.Needs.{needs}
 use Rattle.lent.proofs.check.check_named.Statement.{statement}
 use Rattle.lent.proofs.check.check_named.Tie as tie
 
 -- the mounts, where their test passed
-mounts-good : (c : tie.Else1) → (let b = c .before .before .before .before .before .before .before .args .mounts .now in mountsAt b ≡ mountsOf b)
-mounts-good c = rw (not-false (c .before .is-mounts .result) (c .if1 .left)) at (c .before .is-mounts .ensures)
+mounts-good : (c : tie.Else1) → (let b = c .before .before .before .before .before .before .before .args .mounts .now in isGood (mountsOf b) ≡ true)
+mounts-good c = sym (c .before .is-mounts .ensures) ∙ not-false _ (c .if1 .left)
 
 is-mounts-requires : tie.Need-is-mounts-requires
 is-mounts-requires c κs = search needs
@@ -19,7 +20,7 @@ is-mounts-requires c κs = search needs
 returns : tie.Need-returns
 returns c =
     let s = c .before .before .before .before .before .before .before in
-    wrong-mounts _ _ _ (s .pre .0 .good) (s .pre .1 .good) (rw (not-true (c .before .is-mounts .result) (c .if1 .taken)) at (c .before .is-mounts .ensures))
+    wrong-mounts _ _ _ (s .pre .0 .good) (s .pre .1 .good) (sym (c .before .is-mounts .ensures) ∙ not-true _ (c .if1 .taken))
 
 find-settings-requires : tie.Need-find-settings-requires
 find-settings-requires c κs = search needs

@@ -2,9 +2,7 @@
 -- Assumes nothing.
 use mathlib.Core.Path.{_≡_}
 use mathlib.Core.Option.{some}
-use Rattle.lent.proofs.BlockSteps.{well-named}
-use Rattle.lent.proofs.Searches.{looked-up}
-use Rattle.lent.proofs.SettingSteps.{no-auth, user-alone, type-alone, empty-type, empty-user, is-auth}
+use Rattle.lent.proofs.SettingSteps.{well-named, looked-up, no-auth, user-alone, type-alone, empty-type, empty-user, is-auth}
 use Rattle.octets.specs.Outcome.{gives}
 use Rattle.octets.specs.Text.{bytes}
 use Rattle.headers.specs.Lookup.{lookupOf}

@@ -2,9 +2,7 @@
 -- Assumes nothing.
 use mathlib.Core.Path.{_≡_}
 use mathlib.Core.Option.{some}
-use Rattle.lent.proofs.BlockSteps.{well-named}
-use Rattle.lent.proofs.Searches.{looked-up}
-use Rattle.lent.proofs.SettingSteps.{no-fact, empty-fact, is-fact}
+use Rattle.lent.proofs.SettingSteps.{well-named, looked-up, no-fact, empty-fact, is-fact}
 use Rattle.octets.specs.Outcome.{gives}
 use Rattle.headers.specs.Lookup.{lookupOf}
 use borrow.Author.Needs.{needs}

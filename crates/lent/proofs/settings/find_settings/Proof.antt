@@ -1,7 +1,6 @@
 -- `lent::settings::find_settings` meets its contract.
 -- Assumes nothing.
-use Rattle.lent.proofs.BlockSteps.{well-named}
-use Rattle.lent.proofs.SettingSteps.{no-name, no-port, no-software, no-addr, wrong-auth, all-found}
+use Rattle.lent.proofs.SettingSteps.{well-named, no-name, no-port, no-software, no-addr, wrong-auth, all-found}
 use Rattle.lent.specs.Places.{FactFound, ValueFound, PortFound}
 use Rattle.lent.specs.declared.settings.Fact.the-variants.{At as FactAt}
 use Rattle.lent.specs.declared.settings.Value.the-variants.{At as ValueAt}

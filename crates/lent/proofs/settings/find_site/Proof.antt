@@ -1,8 +1,6 @@
 -- `lent::settings::find_site` meets its contract.
 -- Assumes nothing.
-use Rattle.lent.proofs.BlockSteps.{well-named}
-use Rattle.lent.proofs.Searches.{looked-up}
-use Rattle.lent.proofs.SettingSteps.{no-site, in-site-at}
+use Rattle.lent.proofs.SettingSteps.{well-named, looked-up, no-site, in-site-at}
 use borrow.Author.Needs.{needs}
 use Rattle.lent.proofs.settings.find_site.Statement.{statement}
 use Rattle.lent.proofs.settings.find_site.Tie as tie

@@ -1,8 +1,6 @@
 -- `lent::settings::find_value` meets its contract.
 -- Assumes nothing.
-use Rattle.lent.proofs.BlockSteps.{well-named}
-use Rattle.lent.proofs.Searches.{looked-up}
-use Rattle.lent.proofs.SettingSteps.{in-facts-at, not-in-facts}
+use Rattle.lent.proofs.SettingSteps.{well-named, looked-up, in-facts-at, not-in-facts}
 use borrow.Author.Needs.{needs}
 use Rattle.lent.proofs.settings.find_value.Statement.{statement}
 use Rattle.lent.proofs.settings.find_value.Tie as tie

@@ -1,10 +1,10 @@
 // The mount that a path goes to. A mount is a header of the mounts block: its name, and the pool that its value names.
 ghost use mathlib.Core.Path.{_≡_};
 ghost use mathlib.Core.Bool.{true};
-ghost use Rattle.headers.specs.Block.{wellFormed};
-ghost use Rattle.lent.specs.Mounts.{slashPart, shortened};
 ghost use Rattle.octets.specs.Outcome.{refusalOf};
-ghost use Rattle.lent.specs.Search.{mountOutcome, searchOf};
+ghost use Rattle.mounts.specs.Blocks.{isGood};
+ghost use Rattle.mounts.specs.Mounts.{mountsOf};
+ghost use Rattle.mounts.specs.Search.{slashPart, shortened, mountOutcome, searchOf};
 use headers::lookup::Place;
 use headers::lookup::seek;
 
@@ -55,7 +55,7 @@ impl Mount {
 
 // The longest mount that fits a path: the path is tried as a name, then the path without its last segment, and so on.
 pub fn search(mounts: &[u8], path: &[u8]) -> Mount
-    requires { ⌜ wellFormed (now mounts) ≡ true ⌝ }
+    requires { ⌜ isGood (mountsOf (now mounts)) ≡ true ⌝ }
     ensures { λ r. ⌜ mountOutcome r ≡ searchOf (now (mounts .entry)) (now (path .entry)) ⌝ }
 {
     let p = seek(mounts, path);

@@ -1,14 +1,15 @@
--- `lent::blocks::all_mounts` meets its contract.
+-- `mounts::check::all_mounts` meets its contract.
 -- Assumes nothing.
 use Prim.Native.Nat.{_-_, _≤_}
 use Prim.{absurd}
+use mathlib.Core.Path.{sym}
 use native.Mathlib.Omega.{arith}
 use lib.ListN.{length}
 use borrow.Author.Needs.{needs}
-use Rattle.lent.proofs.BlockSteps.{found-at, Walk, start, Step, step, always-header, no-more, other-first, slash-last, no-pool, is-mount}
-use Rattle.lent.proofs.blocks.all_mounts.Statement.{statement}
-use Rattle.lent.proofs.blocks.all_mounts.Tie as tie
-use Rattle.headers.specs.Block.{headerIn, headerOutcome, HeaderFound}
+use Rattle.mounts.proofs.MountSteps.{found-at, Walk, start, Step, step, isMount, always-header, no-more, other-first, slash-last, no-pool, is-mount}
+use Rattle.mounts.proofs.check.all_mounts.Statement.{statement}
+use Rattle.mounts.proofs.check.all_mounts.Tie as tie
+use Rattle.headers.specs.Block.{headerOutcome, HeaderFound}
 use Rattle.headers.specs.declared.block.HeaderPlace.the-variants.{At}
 
 abbrev Inv-loop : tie.InvT-loop
@@ -29,7 +30,7 @@ header :
     (c : tie.After-known-told Inv-loop μ-loop)
     → (let l = c .before .before .before .before .before in
     let b = l .before .before .args .block .now in
-    Step b (headerIn b (l .loop .i) (c .before .h .given .0 .0) (c .before .h .given .0 .1 .0)) (c .before .h .given .0 .1 .0))
+    Step b (c .before .h .given .0 .1 .0) (isMount b (l .loop .i) (c .before .h .given .0 .0) (c .before .h .given .0 .1 .0) (found c .order)))
 header c = step (c .before .before .before .before .before .loop .inv .1) _ _ (found c)
 
 loop-holds : tie.Need-loop-holds Inv-loop μ-loop
@@ -55,7 +56,7 @@ shared-slice-read-if1 c = search needs
 returns-2 : tie.Need-returns-2 Inv-loop μ-loop
 returns-2 c =
     let k = c .before .before in
-    header k .bad (other-first _ _ _ _ (found k .order) (c .if1 .taken))
+    sym (header k .bad (other-first _ _ _ _ (found k .order) (c .if1 .taken)))
 
 sub-if2 : tie.Need-sub-if2 Inv-loop μ-loop
 sub-if2 c = omega (arith, found (c .before .before) .order)
@@ -66,7 +67,7 @@ shared-slice-read-if2 c = omega (arith, found (c .before .before .before) .order
 returns-3 : tie.Need-returns-3 Inv-loop μ-loop
 returns-3 c =
     let k = c .before .before .before .before in
-    header k .bad (slash-last _ _ _ _ (found k .order) (c .before .before .if1 .left) (c .if2 .taken))
+    sym (header k .bad (slash-last _ _ _ _ (found k .order) (c .before .before .if1 .left) (c .if2 .taken)))
 
 add-if3 : tie.Need-add-if3 Inv-loop μ-loop
 add-if3 c = omega (arith, found (c .before .before .before .before) .order)
@@ -74,7 +75,7 @@ add-if3 c = omega (arith, found (c .before .before .before .before) .order)
 returns-4 : tie.Need-returns-4 Inv-loop μ-loop
 returns-4 c =
     let k = c .before .before .before .before .before in
-    header k .bad (no-pool _ _ _ _ (found k .order) (c .before .before .before .if1 .left) (c .before .if2 .left) (c .if3 .taken))
+    sym (header k .bad (no-pool _ _ _ _ (found k .order) (c .before .before .before .if1 .left) (c .before .if2 .left) (c .if3 .taken)))
 
 add-i : tie.Need-add-i Inv-loop μ-loop
 add-i c = omega (arith, found (c .before .before .before .before .before) .order)
@@ -88,7 +89,7 @@ loop-again c =
     (omega (arith, found k .order), header k .good (is-mount _ _ _ _ (found k .order) (c .before .before .before .if1 .left) (c .before .if2 .left) (c .if3 .left)))
 
 returns-5 : tie.Need-returns-5 Inv-loop μ-loop
-returns-5 c = no-more (c .before .loop .inv .1) (c .loop-test .left)
+returns-5 c = sym (no-more (c .before .loop .inv .1) (c .loop-test .left))
 
 pub all-mounts-spec : {M : Type 1} → statement M
 all-mounts-spec =

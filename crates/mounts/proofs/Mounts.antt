@@ -18,8 +18,9 @@ use Rattle.octets.proofs.Alls.{all-implies}
 use Rattle.octets.proofs.Bools.{and-left, and-right, and-false}
 use Rattle.octets.proofs.Compares.{same-true}
 use Rattle.octets.specs.Scan.{count}
-use Rattle.lent.specs.Mounts.{Mount, begins, fits, longer, mountOf, beforeSlash, shortened, mountNamed, orShorter, triedIn, tried}
-use Rattle.lent.specs.Claims.{here, later, Longest, MountIsLongest, LongestWins, RouteIsPath}
+use Rattle.mounts.specs.Mounts.{Mount, begins, fits, longer, mountOf}
+use Rattle.mounts.specs.Search.{beforeSlash, shortened, mountNamed, orShorter, triedIn, tried}
+use Rattle.mounts.specs.Claims.{here, later, Longest, MountIsLongest, LongestWins, RouteIsPath}
 
 -- Bytes that begin with others.
 

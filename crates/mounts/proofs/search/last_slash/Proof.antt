@@ -1,4 +1,4 @@
--- `lent::search::last_slash` meets its contract.
+-- `mounts::search::last_slash` meets its contract.
 -- Assumes nothing.
 use mathlib.Core.Path.{_≡_, sym, ap, _∙_}
 use Prim.Native.Nat.{ℕ, _≤_}
@@ -6,10 +6,10 @@ use native.Mathlib.Omega.{arith}
 use lib.ListN.{length, take}
 use lib.Seq.{take-length}
 use borrow.Author.Needs.{needs}
-use Rattle.lent.proofs.Mounts.{at-slash, no-slash}
-use Rattle.lent.proofs.search.last_slash.Statement.{statement}
-use Rattle.lent.proofs.search.last_slash.Tie as tie
-use Rattle.lent.specs.Mounts.{shortened}
+use Rattle.mounts.proofs.Mounts.{at-slash, no-slash}
+use Rattle.mounts.proofs.search.last_slash.Statement.{statement}
+use Rattle.mounts.proofs.search.last_slash.Tie as tie
+use Rattle.mounts.specs.Search.{shortened}
 
 abbrev Inv-loop : tie.InvT-loop
 Inv-loop path n₀ n = (n ≤ length path) × (shortened (take n path) ≡ shortened path)

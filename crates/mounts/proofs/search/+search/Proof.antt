@@ -1,23 +1,23 @@
--- `lent::search::search` meets its contract: each try is shorter than the one before.
+-- `mounts::search::search` meets its contract: each try is shorter than the one before.
 -- Assumes nothing.
 use mathlib.Core.Path.{sym, ap, _∙_}
 use native.Mathlib.Nat.{le-of-lt}
 use lib.ListN.{length, length-take}
 use lib.Seq.{length-take-le}
-use Rattle.lent.proofs.Searches.{front-shorter, looked-up, path-is-mount, no-mount, shorter-path}
-use Rattle.lent.specs.Mounts.{slashPart}
+use Rattle.mounts.proofs.Searches.{front-shorter, looked-up, good-formed, path-is-mount, no-mount, shorter-path}
+use Rattle.mounts.specs.Search.{slashPart}
 use borrow.Author.Needs.{needs}
 use native.Mathlib.Omega.{arith}
 use Prim.Native.Nat.{ℕ, _<_}
 use borrow.Fn.Kinds.{In}
 use borrow.Fn.PlainCycle.{Measures, is, falls, and}
-use Rattle.lent.proofs.search.search.Reads as search′
-use Rattle.lent.proofs.search.search.Kinds as search-kinds
-use Rattle.lent.proofs.search.+search.Lts-search as search-lts
+use Rattle.mounts.proofs.search.search.Reads as search′
+use Rattle.mounts.proofs.search.search.Kinds as search-kinds
+use Rattle.mounts.proofs.search.+search.Lts-search as search-lts
 use Rattle.headers.proofs.lookup.seek.Reads as seek-reads
-use Rattle.lent.proofs.search.last_slash.Reads as last-slash-reads
-use Rattle.lent.proofs.search.+search.{statement}
-use Rattle.lent.proofs.search.+search.Tie.{close}
+use Rattle.mounts.proofs.search.last_slash.Reads as last-slash-reads
+use Rattle.mounts.proofs.search.+search.{statement}
+use Rattle.mounts.proofs.search.+search.Tie.{close}
 
 abbrev μ-search : Measures 2 search-kinds.ps ℕ
 μ-search κs a = length (a .1 .0 .now)
@@ -36,7 +36,7 @@ search-seek-requires : (t : ℕ) → search-lts.Need-seek-requires (
   search-below t,
   search′.Post,
 ) (search-at t) search′.Post
-search-seek-requires t c κs = search needs
+search-seek-requires t c κs = good-formed _ (c .before .before .pre .1)
 
 search-enum-known-p : (t : ℕ) → search-lts.Need-enum-known-p (
   seek-reads.Asked,

@@ -1,0 +1,40 @@
+-- 20 is the only number that lent blocks and mounts are refused with.
+-- Assumes nothing.
+use Prim.Native.Nat.{ℕ, _+_}
+use mathlib.Core.Path.{refl}
+use mathlib.Core.Bool.{not}
+use mathlib.Core.List.{List, [], _∷_}
+use lib.Dec.{leb}
+use lib.ListN.{length}
+use Rattle.octets.specs.Lists.{isNil, different}
+use Rattle.octets.proofs.Refusals.{Refuses, not-refused, only-number, refuses-then, refuses-need, refuses-given}
+use Rattle.headers.specs.Block.{Header, names, headersOf}
+use Rattle.mounts.specs.Blocks.{blockOf}
+use Rattle.mounts.specs.Mounts.{begins, ends, mountAt, mountsFrom, mountsOf}
+use Rattle.mounts.specs.Claims.{MountsNumber}
+
+pub block-refuses : (limit : ℕ) (block : List ℕ) → Refuses (20 ∷ []) (blockOf limit block)
+block-refuses limit block =
+    refuses-need (leb (length block) limit) 20 refl
+    (refuses-then (refuses-given (headersOf block) 20 refl)
+    (λ hs. refuses-need (different (names hs)) 20 refl not-refused))
+
+mount-refuses : (i : ℕ) (h : Header) → Refuses (20 ∷ []) (mountAt i h)
+mount-refuses i h =
+    refuses-need (begins (47 ∷ []) (h .name)) 20 refl
+    (refuses-need (not (ends 47 (h .name))) 20 refl
+    (refuses-need (not (isNil (h .value))) 20 refl not-refused))
+
+mounts-refuse : (i : ℕ) (hs : List Header) → Refuses (20 ∷ []) (mountsFrom i hs)
+unfolding mountsFrom
+mounts-refuse i [] = not-refused
+mounts-refuse i (h ∷ hs) =
+    refuses-then (mount-refuses (i + length (h .name) + 1) h)
+    (λ m. refuses-then (mounts-refuse (i + length (h .name) + 1 + length (h .value) + 1) hs) (λ ms. not-refused))
+
+pub mounts-number : MountsNumber
+unfolding mountsOf
+mounts-number block n e =
+    only-number n 20
+    (refuses-then (block-refuses 4096 block) (λ hs. refuses-need (leb (length hs) 32) 20 refl (mounts-refuse 0 hs)))
+    e

@@ -1,0 +1,70 @@
+-- The mounts of a block are its headers, each pool where its value stands.
+-- Assumes nothing.
+use Prim.Native.Nat.{ℕ, _+_, _≤_}
+use mathlib.Core.Path.{_≡_, refl, sym, ap, subst, _∙_}
+use mathlib.Core.Bool.{not}
+use mathlib.Core.List.{List, [], _∷_, _++_}
+use native.Mathlib.Nat.{add-assoc}
+use native.Mathlib.Omega.{arith}
+use lib.Dec.{leb}
+use lib.ListN.{length, take, drop, length-append, length-drop}
+use lib.Seq.{drop-drop, drop-append-add, take-append-seam}
+use Rattle.octets.specs.Outcome.{gives}
+use Rattle.octets.specs.Lists.{All, _&_, isNil}
+use Rattle.octets.proofs.Outcomes.{need-gives, gives-once, then-gives}
+use Rattle.headers.specs.Block.{Header, Proper, printed}
+use Rattle.headers.proofs.Claims.{headers-proper, printed-parsed}
+use Rattle.mounts.specs.Blocks.{blockOf}
+use Rattle.mounts.specs.Mounts.{Mount, begins, ends, mountAt, mountsFrom, mountsOf}
+use Rattle.mounts.specs.Claims.{MountOf, Each, none-left, one-more, MountsAreHeaders}
+use Rattle.mounts.proofs.BlockSteps.{blocks-hold}
+
+-- a mount by its header, whose value stands at i
+pub mount-is :
+    (i : ℕ) (h : Header) (m : Mount) → mountAt i h ≡ gives m
+    → record { name = h .name; poolStart = i; poolLength = length (h .value) } ≡ m
+mount-is i h m e =
+    let a = need-gives (begins (47 ∷ []) (h .name)) 20 _ m e in
+    let b = need-gives (not (ends 47 (h .name))) 20 _ m (a .1) in
+    let c = need-gives (not (isNil (h .value))) 20 _ m (b .1) in
+    gives-once _ m (c .1)
+
+-- headers that are printed in b from i on
+module _ (b : List ℕ) where
+  behind : (i : ℕ) (p q : List ℕ) → drop i b ≡ p ++ 0 ∷ q → drop (i + length p + 1) b ≡ q
+  behind i p q e = rw (add-assoc i (length p) 1) (sym (drop-drop (length p + 1) i b) ∙ ap (drop (length p + 1)) e ∙ drop-append-add p (0 ∷ q) 1)
+
+  mount-of : (i : ℕ) (h : Header) (m : Mount) (rest : List ℕ) → Proper h → drop i b ≡ h .value ++ 0 ∷ rest → mountAt i h ≡ gives m → MountOf b m h
+  mount-of i h m rest p e a =
+      subst (λ (x : Mount). MountOf b x h) (mount-is i h m a)
+      (record {
+        name = refl;
+        no-nul = p .name-bytes;
+        inside = omega (arith, ap length e, length-drop i b, length-append (h .value) (0 ∷ rest));
+        pool = rw e (take-append-seam (h .value) (0 ∷ rest));
+      })
+
+  each-at : (i : ℕ) (hs : List Header) (ms : List Mount) → All Proper hs → drop i b ≡ printed hs → mountsFrom i hs ≡ gives ms → Each b ms hs
+  unfolding printed mountsFrom
+  each-at i [] ms p e a = subst (λ (x : List Mount). Each b x []) (gives-once _ ms a) none-left
+  each-at i (h ∷ hs) ms (p & ps) e a =
+      let j : ℕ = i + length (h .name) + 1 in
+      let n = behind i (h .name) (h .value ++ 0 ∷ printed hs) e in
+      let f = then-gives (mountAt j h) _ ms a in
+      let g = then-gives (mountsFrom (j + length (h .value) + 1) hs) _ ms (f .next) in
+      let m : MountOf b (f .it) h = mount-of j h (f .it) (printed hs) p n (f .first) in
+      let rest = each-at (j + length (h .value) + 1) hs (g .it) ps (behind j (h .value) (printed hs) n) (g .first) in
+      subst (λ (x : List Mount). Each b x (h ∷ hs)) (gives-once _ ms (g .next)) (one-more m rest)
+
+pub mounts-are-headers : MountsAreHeaders
+unfolding mountsOf
+mounts-are-headers block ms e =
+    let f = then-gives (blockOf 4096 block) _ ms e in
+    let hs : List Header = f .it in
+    let g = need-gives (leb (length hs) 32) 20 (mountsFrom 0 hs) ms (f .next) in
+    let h = blocks-hold .accepts 4096 block hs (f .first) .headers in
+    record {
+      hs = hs;
+      are = h;
+      each = each-at block 0 hs ms (headers-proper block hs h) (sym (printed-parsed .bytes block hs h)) (g .1);
+    }

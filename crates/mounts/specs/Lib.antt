@@ -1,0 +1,4 @@
+pub mod Blocks
+pub mod Mounts
+pub mod Search
+pub mod Claims
