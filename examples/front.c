@@ -6,6 +6,8 @@
  *   front --facts REMOTE_ADDR=10.0.0.9 \
  *         --site SERVER_NAME=q.example SERVER_PORT=80 SERVER_SOFTWARE=gate/1 --mounts /jobs=pool <request
  *
+ * A pool may have a limit of the body's bytes behind it: --mounts '/jobs=pool;65536'.
+ *
  * It prints the SCGI bytes with | for NUL, the pool and the bytes used; with --raw the SCGI bytes alone, as they are. Standard
  * output is written only for a request that is accepted.
  */
@@ -41,7 +43,7 @@ struct exchange {
 static const char *const options[BLOCKS] = {"--facts", "--site", "--mounts"};
 
 static const char usage_text[] =
-    "usage: front [--raw] [--facts NAME=VALUE.. --site NAME=VALUE.. --mounts PATH=POOL.. <REQUEST]\n"
+    "usage: front [--raw] [--facts NAME=VALUE.. --site NAME=VALUE.. --mounts PATH=POOL[;LIMIT].. <REQUEST]\n"
     "Prints the SCGI bytes for an HTTP request on standard input or, without blocks, for one of its own.\n";
 
 /* A request that curl sent, and blocks for it. */

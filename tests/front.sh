@@ -19,6 +19,16 @@ printf 'GET /jobs HTTP/1.0\r\nCookie: a=1\r\nAccept: x\r\nCookie: b=2\r\n\r\n' >
 "$front" "${blocks[@]}" <"$dir/in" >"$dir/out" || complain "not status 0 for a request with two Cookie fields"
 grep -qF -- '|HTTP_COOKIE|a=1; b=2|HTTP_ACCEPT|x|,' "$dir/out" || complain "two Cookie fields are joined in another way"
 
+# a mount with a limit of five bytes: the pool is named without it, and six bytes are refused; so is a bad limit
+limited=("${blocks[@]::6}" --mounts '/jobs=pool;5')
+printf 'POST /jobs HTTP/1.0\r\nContent-Length: 5\r\n\r\nhello' >"$dir/in"
+"$front" "${limited[@]}" <"$dir/in" >"$dir/out" || complain "not status 0 for a body as long as the mount's limit"
+grep -qx 'pool: pool' "$dir/out" || complain "the pool of a mount with a limit differs"
+refuses 1 "refused 20" "$front" "${limited[@]}" '/x=pool;1048577'
+printf 'POST /jobs HTTP/1.0\r\nContent-Length: 6\r\n\r\nhello!' >"$dir/in"
+refuses 1 "refused 9" "$front" "${limited[@]}"
+refuses 1 "answers 413 and closes" "$front" "${limited[@]}"
+
 # a request that is accepted
 printf 'GET /jobs/7?x=1 HTTP/1.1\r\nHost: q.example\r\n\r\n' >"$dir/in"
 raw "${blocks[@]}"

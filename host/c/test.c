@@ -250,7 +250,8 @@ static void test_start(void)
                                         "REMOTE_ADDR|a|REMOTE_USER|u|", "REMOTE_ADDR|a|AUTH_TYPE||REMOTE_USER|u|",
                                         "REMOTE_ADDR|a|SERVER_NAME||", "REMOTE_ADDR|a||v|"};
     static const char *const ports[] = {"", "0", "080", "65536", "8o", "99999999999999999999"};
-    static const char *const mounts[] = {"/|p|", "/a/|p|", "a|p|", "/a||", "/a|p|/a|q|", "/a|p"};
+    static const char *const mounts[] = {"/|p|", "/a/|p|", "a|p|", "/a||", "/a|p|/a|q|", "/a|p", "/a|;5|", "/a|p;|", "/a|p;5;6|", "/a|p;x|",
+                                         "/a|p;1048577|", "/jobs|p|/a|p;00000000005|"};
     uint64_t *answer = list(OY_GATEWAY_NUMBERS);
     struct bytes out = room(1000);
     char site[100];
@@ -328,6 +329,25 @@ static void test_digits(void)
     free(answer);
 }
 
+/* A limit behind the pool: a body of so many bytes, and of one more, here and not yet here. The pool is named without the limit. */
+static void test_mount_limit(void)
+{
+    static const char *const mounts = "/jobs|pool;5|/jobs/night|late;0000000000|";
+    uint64_t *answer = list(OY_GATEWAY_NUMBERS);
+    struct bytes out = room(1000);
+    CHECK(forward(good_facts, good_site, mounts, "POST /jobs HTTP/1.0\r\nContent-Length: 6\r\n\r\nhello!", out, answer) == OY_BODY_LONG);
+    CHECK(forward(good_facts, good_site, mounts, "POST /jobs HTTP/1.0\r\nContent-Length: 6\r\n\r\n", out, answer) == OY_BODY_LONG);
+    CHECK(forward(good_facts, good_site, mounts, "POST /jobs HTTP/1.0\r\nContent-Length: 5\r\n\r\n", out, answer) == OY_CUT);
+    CHECK(out.at[0] == 0xa5 && answer[OY_GATEWAY_POOL_START] == 77);
+    CHECK(forward(good_facts, good_site, mounts, "POST /jobs HTTP/1.0\r\nContent-Length: 5\r\n\r\nhello", out, answer) == 0);
+    CHECK(answer[OY_GATEWAY_POOL_START] == 6 && answer[OY_GATEWAY_POOL_LENGTH] == 4);
+    CHECK(forward(good_facts, good_site, mounts, "POST /jobs/night HTTP/1.0\r\nContent-Length: 1\r\n\r\nh", out, answer) == OY_BODY_LONG);
+    CHECK(forward(good_facts, good_site, mounts, "GET /jobs/night HTTP/1.0\r\n\r\n", out, answer) == 0);
+    CHECK(answer[OY_GATEWAY_POOL_START] == 25 && answer[OY_GATEWAY_POOL_LENGTH] == 4);
+    free(out.at);
+    free(answer);
+}
+
 /* Each refusal has a text of its own, and a status exactly where a server has something to answer. */
 static void test_text(void)
 {
@@ -376,6 +396,7 @@ static void (*const tests[])(void) = {
     test_start,
     test_own_variable,
     test_digits,
+    test_mount_limit,
     test_text,
     test_response,
 };

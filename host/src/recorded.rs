@@ -47,8 +47,8 @@ fn case_of(file: &str, bytes: Vec<u8>) -> Case {
     Case::new(Call::Gateway, inputs, room)
 }
 
-/// Connection facts, site settings and one mount.
-pub fn blocks(address: &str, mount: &str, pool: &str) -> Vec<Vec<u8>> {
+/// Connection facts, site settings and one mount, with its value: a pool, or a pool, `;` and a limit.
+pub fn blocks(address: &str, mount: &str, value: &str) -> Vec<Vec<u8>> {
     let site = [pair("SERVER_NAME", b"q.example"), pair("SERVER_PORT", b"80"), pair("SERVER_SOFTWARE", b"gate/1")];
-    vec![block(&[pair("REMOTE_ADDR", address.as_bytes())]), block(&site), block(&[pair(mount, pool.as_bytes())])]
+    vec![block(&[pair("REMOTE_ADDR", address.as_bytes())]), block(&site), block(&[pair(mount, value.as_bytes())])]
 }

@@ -32,7 +32,7 @@ pub const CONTRADICTION: Refusal = 25;
 pub const MAX_BLOCK: usize = 16_384;
 /// Headers of a block.
 pub const MAX_HEADERS: usize = 128;
-/// Bytes of a body.
+/// Bytes of a body. A mount's limit is at most this, and without a limit it is this.
 pub const MAX_BODY: usize = 1_048_576;
 /// Digits of a decimal number that is read, the netstring length aside.
 pub const MAX_DIGITS: usize = 10;

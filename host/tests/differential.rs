@@ -1,8 +1,9 @@
 //! The archive against the independent implementation, call by call, on many inputs: what is given, what is written, what is left.
 use oyinkafubo_host::answers::{CUT, FULL, REFUSED, WHOLE};
-use oyinkafubo_host::case::{compare, Call, Observed};
-use oyinkafubo_host::generate;
+use oyinkafubo_host::case::{compare, observe, Call, Case, Observed};
+use oyinkafubo_host::generate::{self, lent};
 use oyinkafubo_host::random::Random;
+use oyinkafubo_host::reference::Reference;
 
 /// How often each number was given.
 struct Tally {
@@ -40,18 +41,20 @@ impl Tally {
     }
 }
 
-/// Compares both sides on `count` cases of the call and hands each result to `each`.
-fn compare_many(call: Call, count: usize, mut each: impl FnMut(&Observed)) {
+/// Compares both sides on `count` cases of the call and hands each with its result to `each`.
+fn compare_many(call: Call, count: usize, mut each: impl FnMut(Case, &Observed)) {
     let mut random = Random::seeded(call.name());
     for _ in 0..count {
-        each(&compare(&generate::case(&mut random, call)));
+        let case = generate::case(&mut random, call);
+        let observed = compare(&case);
+        each(case, &observed);
     }
 }
 
 /// Compares many cases and holds the numbers seen to those that the call can give.
 fn check(call: Call, count: usize, numbers: &[usize]) {
     let mut tally = Tally::new(call.name());
-    compare_many(call, count, |observed| tally.count(observed.code));
+    compare_many(call, count, |_, observed| tally.count(observed.code));
     tally.assert_seen(numbers);
     tally.assert_accepted();
 }
@@ -82,7 +85,7 @@ fn spool() {
     let mut given = Tally::new("spool");
     let mut refused = Tally::new("spool, refused requests");
     let mut endings = [0; 4];
-    compare_many(Call::Spool, 100_000, |observed| {
+    compare_many(Call::Spool, 100_000, |_, observed| {
         given.count(observed.code);
         if observed.code == 0 {
             endings[observed.answer[1] as usize] += 1;
@@ -97,17 +100,30 @@ fn spool() {
     }
 }
 
-/// 22 is none of them: under the limits of the head, of the target, of the fields and of the blocks the variables fit in a block.
+/// 22 is none of them: under the limits of the head, of the target, of the fields and of the blocks the variables fit in a block. The
+/// limits of the mounts bring 9 and 20, often, and no other number.
 #[test]
 fn gateway() {
-    check(Call::Gateway, 200_000, &[1, 9, 11, 12, 13, 14, 15, 16, 17, 18, 19, 20, 21]);
+    let mut given = Tally::new("gateway");
+    let mut by_limits = Tally::new("gateway, by the limits of the mounts");
+    compare_many(Call::Gateway, 200_000, |mut case, observed| {
+        given.count(observed.code);
+        case.inputs[2] = lent::without_limits(&case.inputs[2]);
+        if observe(&Reference, &case).code != observed.code {
+            by_limits.count(observed.code);
+        }
+    });
+    given.assert_seen(&[1, 9, 11, 12, 13, 14, 15, 16, 17, 18, 19, 20, 21]);
+    given.assert_accepted();
+    by_limits.assert_seen(&[9, 20]);
+    assert!(by_limits.seen[9] > 1_000 && by_limits.seen[20] > 1_000, "a limit is rarely broken");
 }
 
 #[test]
 fn response() {
     let mut tally = Tally::new("response");
     let mut actions = [0; 5];
-    compare_many(Call::Response, 200_000, |observed| {
+    compare_many(Call::Response, 200_000, |_, observed| {
         tally.count(observed.code);
         if observed.code == 0 {
             actions[observed.answer[0] as usize] += 1;

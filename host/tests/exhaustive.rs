@@ -133,6 +133,31 @@ mod gateway {
         });
     }
 
+    /// Compares requests under a mount of this value that wins, and under one that does not: without a body, with five bytes of it, and
+    /// with lengths that are stated at the largest limit.
+    fn check_value(value: &[u8]) {
+        let wins = [b"/a\0", value, b"\0/b\0pool\0"].concat();
+        let loses = [b"/b\0", value, b"\0/a\0pool\0"].concat();
+        for mounts in [wins, loses] {
+            for (stated, body) in [("0", ""), ("5", "hello"), ("1048575", ""), ("1048576", "")] {
+                let mut inputs = recorded::blocks("10.0.0.9", "/a", "pool");
+                inputs[2] = mounts.clone();
+                inputs.push(format!("POST /a HTTP/1.0\r\nContent-Length: {stated}\r\n\r\n{body}").into_bytes());
+                compare(&Case::new(Call::Gateway, inputs, 300));
+            }
+        }
+    }
+
+    /// Every value of a mount over a few bytes, and limits of few digits, of up to twelve, and near to the largest one.
+    #[test]
+    fn mount_values() {
+        every_text(b"p;059x", 5, &mut check_value);
+        let starts: [&[u8]; 5] = [b"p;104857", b"p;00010485", b"p;00000000", b"p;10000000", b"p;99999999"];
+        for start in starts {
+            every_text(b"05679; x", 4, &mut |text| check_value(&[start, text].concat()));
+        }
+    }
+
     /// Every port and every text of a mount, over a few bytes.
     #[test]
     fn lent_blocks() {

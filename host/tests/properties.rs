@@ -109,26 +109,25 @@ mod gateway {
     use oyinkafubo_host::generate::{draft, http, lent, related};
     use oyinkafubo_host::meaning::meaning;
     use oyinkafubo_host::random::Random;
+    use oyinkafubo_host::refusal::MAX_BODY;
+    use std::ops::Range;
 
     /// The SCGI bytes of the request at the start, the pool's place, and the bytes used.
-    fn forward(lent: &[Vec<u8>], bytes: &[u8]) -> Result<(Vec<u8>, [u64; 2], usize), u8> {
+    fn forward(lent: &[Vec<u8>], bytes: &[u8]) -> Result<(Vec<u8>, Range<usize>, usize), u8> {
         let blocks = Blocks { facts: &lent[0], site: &lent[1], mounts: &lent[2] };
         let mut out = vec![0; bytes.len() + 20_000];
         let given = Archive.forward(blocks, bytes, &mut out)?;
         out.truncate(given.written as usize);
-        Ok((out, [given.pool_start, given.pool_len], given.used as usize))
+        let start = given.pool_start as usize;
+        Ok((out, start..start + given.pool_len as usize, given.used as usize))
     }
 
     /// Requests that are accepted under the blocks, without bytes behind them.
     fn accepted(random: &mut Random, lent: &lent::Lent, count: usize) -> Vec<Vec<u8>> {
         let blocks = lent.blocks();
-        let mut requests = Vec::new();
-        while requests.len() < count {
-            let bytes = draft::good(random, &lent.mounts).bytes();
-            if bytes.len() < 800 && forward(&blocks, &bytes).is_ok() {
-                requests.push(bytes);
-            }
-        }
+        let tried = (0..1_000).map(|_| draft::good(random, &lent.mounts).bytes());
+        let requests: Vec<_> = tried.filter(|bytes| bytes.len() < 800 && forward(&blocks, bytes).is_ok()).take(count).collect();
+        assert_eq!(requests.len(), count, "good requests that are accepted");
         requests
     }
 
@@ -190,6 +189,43 @@ mod gateway {
         }
     }
 
+    /// The mount whose pool starts at this place of the block.
+    fn mount_at<'l>(lent: &'l lent::Lent, mounts: &[u8], start: usize) -> &'l lent::Mount {
+        &lent.mounts[mounts[..start].iter().filter(|&&byte| byte == 0).count() / 2]
+    }
+
+    /// A limit gives 9 for a body above it, also before it is there, and changes nothing else: neither bytes nor pool nor refusal.
+    #[test]
+    fn with_limits_and_without() {
+        let mut random = Random::seeded("limits");
+        let mut seen = [0; 3];
+        for _ in 0..40_000 {
+            let lent = lent::good(&mut random);
+            let blocks = lent.blocks();
+            let mut free = blocks.clone();
+            free[2] = lent::without_limits(&blocks[2]);
+            let bytes = http::http_input(&mut random, &lent.mounts);
+            let given = forward(&blocks, &bytes);
+            match forward(&free, &bytes) {
+                Ok((out, pool, used)) => {
+                    let mount = mount_at(&lent, &free[2], pool.start);
+                    if meaning(&bytes[..used]).body.len() > mount.limit {
+                        assert_eq!(given, Err(9));
+                        seen[0] += 1;
+                    } else {
+                        let (same, pool, same_used) = given.expect("accepted");
+                        assert_eq!((same, &blocks[2][pool], same_used), (out, &mount.pool[..], used));
+                        seen[1] += usize::from(mount.limit < MAX_BODY);
+                    }
+                }
+                Err(1) if given == Err(9) => seen[2] += 1,
+                refused => assert_eq!(given, refused),
+            }
+        }
+        println!("limits: 9 for {}, accepted under one {}, 9 without the body {}", seen[0], seen[1], seen[2]);
+        assert!(seen.iter().all(|&requests| requests > 50), "requests: {seen:?}");
+    }
+
     /// How many Cookie lines a request has.
     fn cookies(request: &[u8]) -> usize {
         request.split(|&byte| byte == b'\n').filter(|line| line.to_ascii_lowercase().starts_with(b"cookie:")).count()
@@ -201,6 +237,7 @@ mod gateway {
         let mut random = Random::seeded("meanings");
         let mut seen = [0; 2];
         let mut of_cookies = [0; 2];
+        let mut at_limit = [0; 2];
         for _ in 0..40_000 {
             let lent = lent::good(&mut random);
             let blocks = lent.blocks();
@@ -213,9 +250,13 @@ mod gateway {
             assert_eq!(first.0 == second.0, equal, "{:?}\n{:?}", String::from_utf8_lossy(&one), String::from_utf8_lossy(&two));
             seen[usize::from(equal)] += 1;
             of_cookies[usize::from(equal)] += usize::from(cookies(&one) != cookies(&two));
+            let limit = mount_at(&lent, &blocks[2], first.1.start).limit;
+            at_limit[usize::from(equal)] += usize::from(limit > 0 && limit == request.body.len());
         }
         println!("meanings: {} pairs differ, {} are equal; with other numbers of Cookie lines {of_cookies:?}", seen[0], seen[1]);
+        println!("meanings: with a body as long as the limit {at_limit:?}");
         assert!(seen.iter().all(|&pairs| pairs > 3_000), "pairs: {seen:?}");
         assert!(of_cookies.iter().all(|&pairs| pairs > 50), "pairs with unequal numbers of Cookie lines: {of_cookies:?}");
+        assert!(at_limit.iter().all(|&pairs| pairs > 500), "pairs at a limit: {at_limit:?}");
     }
 }

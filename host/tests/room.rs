@@ -116,16 +116,17 @@ fn numbers_of_the_gateway() {
     every_answer_length(Call::Gateway);
 }
 
-/// The header says that 64 KiB of stack are enough. The mount search is deepest where a path of 64 slashes has no mount.
+/// The header says that 64 KiB of stack are enough. The mount search is deepest where a path of 64 slashes has no mount. A mount's limit is
+/// read in both.
 #[test]
 fn a_stack_of_64_kib() {
     let lines: String = (0..63).map(|at| format!("Field-{at}: {}\r\n", "x".repeat(40))).collect();
     let http = format!("GET {} HTTP/1.0\r\n{lines}\r\n", "/x".repeat(64)).into_bytes();
-    let mut inputs = recorded::blocks("10.0.0.9", "/x", "pool");
+    let mut inputs = recorded::blocks("10.0.0.9", "/x", "pool;0001048576");
     inputs.push(http);
     let fits = Case::new(Call::Gateway, inputs, 20_000);
     let mut deepest = fits.clone();
-    deepest.inputs[2] = generate::block(&[generate::pair("/y", b"pool")]);
+    deepest.inputs[2] = generate::block(&[generate::pair("/y", b"pool;0001048576")]);
     let on_small_stack = |case: Case| {
         let thread = thread::Builder::new().stack_size(64 * 1024).spawn(move || observe(&Archive, &case).code);
         thread.expect("a thread").join().expect("the call returns")

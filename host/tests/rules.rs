@@ -129,13 +129,17 @@ mod gateway {
         REQUEST_METHOD|GET|REQUEST_URI|/jobs/7?x=1|SCRIPT_NAME|/jobs|SERVER_NAME|q.example|SERVER_PORT|80|SERVER_PROTOCOL|HTTP/1.1|\
         SERVER_SOFTWARE|gate/1|HTTP_HOST|q.example|,";
 
-    /// The numbers of the answer, or the refusal, and the output.
-    fn forward(side: &dyn Calls, http: &[u8]) -> (Result<[u64; 4], u8>, Vec<u8>) {
+    /// The numbers of the answer, or the refusal, and the output, which has this room; under these mounts, with | for NUL.
+    pub fn forward_under(side: &dyn Calls, mounts: &str, http: &[u8], room: usize) -> (Result<[u64; 4], u8>, Vec<u8>) {
         let lent = recorded::blocks("10.0.0.9", "/jobs", "pool");
-        let blocks = Blocks { facts: &lent[0], site: &lent[1], mounts: &lent[2] };
-        let mut out = vec![0; 1000];
+        let blocks = Blocks { facts: &lent[0], site: &lent[1], mounts: &bytes(mounts) };
+        let mut out = vec![0; room];
         let given = side.forward(blocks, http, &mut out);
         (given.map(|forwarded| forwarded.numbers()), out)
+    }
+
+    fn forward(side: &dyn Calls, http: &[u8]) -> (Result<[u64; 4], u8>, Vec<u8>) {
+        forward_under(side, "/jobs|pool|", http, 1000)
     }
 
     #[test]
@@ -317,6 +321,156 @@ mod gateway {
                     (side.forward(blocks, http.as_bytes(), &mut out).map(|forwarded| forwarded.numbers()), out)
                 });
                 assert!(given[0].0.is_ok() && given[0] == given[1], "{n}: {http}");
+            }
+        }
+    }
+}
+
+/// 02 §13: a mount's value is a pool, or a pool, `;` and a limit of the body's length.
+mod mount_limits {
+    use super::gateway::forward_under;
+    use oyinkafubo_host::calls::Calls;
+    use oyinkafubo_host::case::sides;
+    use oyinkafubo_host::refusal::MAX_BODY;
+    use oyinkafubo_host::text::bytes;
+
+    /// The numbers of the answer, or the refusal, with room enough.
+    fn forward(side: &dyn Calls, mounts: &str, http: &[u8]) -> Result<[u64; 4], u8> {
+        let (given, out) = forward_under(side, mounts, http, http.len() + 1000);
+        assert!(given.is_ok() || out.iter().all(|&byte| byte == 0), "the output of a refused request");
+        given
+    }
+
+    /// A request that states this length of its body, and has so many bytes of it.
+    fn post(path: &str, stated: usize, len: usize) -> Vec<u8> {
+        let mut http = format!("POST {path} HTTP/1.0\r\nContent-Length: {stated}\r\n\r\n").into_bytes();
+        http.resize(http.len() + len, b'b');
+        http
+    }
+
+    #[rustfmt::skip]
+    const BAD: [&str; 23] = [
+        "", ";", ";5", ";;", ";;5", "p;", "p;;", "p;;5", "p;5;", "p;5;6", "p;x", "p;5x", "p; 5", "p;5 ", "p;+5", "p;-5", "p;0x5",
+        "p;1048577", "p;9999999999", "p;00000000005", "p;00001048576", "p;99999999999", "p;18446744073709551621",
+    ];
+
+    /// 20, whether the mount wins or not, in each place, before the first byte of HTTP is there, and before 19.
+    #[test]
+    fn bad_values() {
+        let around = [("/jobs|", "|"), ("/jobs|", "|/x|p|"), ("/jobs|p|/x|", "|"), ("/x|", "|/jobs|p|"), ("/jobs|", "|/jobs/7|p|")];
+        let requests: [&[u8]; 4] = [b"GET /jobs HTTP/1.0\r\n\r\n", b"GET /jobs/7 HTTP/1.0\r\n\r\n", b"GET /y HTTP/1.0\r\n\r\n", b""];
+        for (name, side) in sides() {
+            for value in BAD {
+                for mounts in around.map(|(before, after)| format!("{before}{value}{after}")) {
+                    assert_eq!(requests.map(|http| forward(side, &mounts, http)), [Err(20); 4], "{name}: {mounts}");
+                }
+            }
+        }
+    }
+
+    /// Values with the length of their pool and their limit.
+    #[rustfmt::skip]
+    const GOOD: [(&str, u64, usize); 12] = [
+        ("p", 1, MAX_BODY), ("p;0", 1, 0), ("p;0000000000", 1, 0), ("p;1", 1, 1), ("pool;5", 4, 5), ("p;05", 1, 5), ("p;0000000005", 1, 5),
+        ("5;7", 1, 7), (" a=,:", 5, MAX_BODY), ("p;1048575", 1, MAX_BODY - 1), ("p;1048576", 1, MAX_BODY), ("p;0001048576", 1, MAX_BODY),
+    ];
+
+    /// Accepted at the limit, and 1 where a byte is not there; above it 9, also where no byte of the body is there. The answer names the
+    /// pool without `;` and limit.
+    #[test]
+    fn at_the_limit_and_above() {
+        for (name, side) in sides() {
+            for (value, pool_len, limit) in GOOD {
+                let mounts = format!("/jobs|{value}|");
+                let most = post("/jobs", limit, limit);
+                let places = forward(side, &mounts, &most).map(|numbers| [numbers[1], numbers[2], numbers[3]]);
+                assert_eq!(places, Ok([6, pool_len, most.len() as u64]), "{name}: {value}");
+                assert_eq!(forward(side, &mounts, &most[..most.len() - 1]), Err(1), "{name}: {value}, cut");
+                for len in [0, limit, limit + 1] {
+                    assert_eq!(forward(side, &mounts, &post("/jobs", limit + 1, len)), Err(9), "{name}: {value}, {len} bytes");
+                }
+                let without = forward(side, &mounts, b"GET /jobs HTTP/1.0\r\n\r\nbbb").map(|numbers| numbers[3]);
+                assert_eq!(without, Ok(22), "{name}: {value}, no body");
+            }
+        }
+    }
+
+    /// The limit is that of the longest mount that fits, be it smaller or larger than that of a shorter one.
+    #[test]
+    fn the_winning_mount_s_limit() {
+        let cases = [
+            ("/jobs|p;5|/jobs/night|q;2|", [5, 2]),
+            ("/jobs|p;2|/jobs/night|q;5|", [2, 5]),
+            ("/jobs/night|q;5|/jobs|p;2|", [2, 5]),
+            ("/jobs/night|q;2|/jobs|p|", [MAX_BODY, 2]),
+            ("/jobs|p;0|/jobs/night|q|", [0, MAX_BODY]),
+        ];
+        for (name, side) in sides() {
+            for (mounts, limits) in cases {
+                for (path, pool, limit) in [("/jobs/nightly", b'p', limits[0]), ("/jobs/night/7", b'q', limits[1])] {
+                    let given = forward(side, mounts, &post(path, limit, limit)).expect("accepted");
+                    assert_eq!((mounts.as_bytes()[given[1] as usize], given[2]), (pool, 1), "{name}: {path} under {mounts}");
+                    assert_eq!(forward(side, mounts, &post(path, limit + 1, limit + 1)), Err(9), "{name}: {path} under {mounts}");
+                }
+            }
+        }
+    }
+
+    /// 9 behind 17, 18 and 19, and before 1 and 21.
+    #[test]
+    fn order() {
+        let cases: [(&[u8], u8); 6] = [
+            (b"POST /jobs HTTP/1.0\r\nContent-Length: 00000000003\r\n\r\nabc", 17),
+            (b"POST /jobs HTTP/1.0\r\nTransfer-Encoding: a\r\nContent-Length: 3\r\n\r\nabc", 18),
+            (b"POST /jobsx HTTP/1.0\r\nContent-Length: 3\r\n\r\nabc", 19),
+            (b"POST /jobs HTTP/1.0\r\nContent-Length: 3\r\n\r\n", 9),
+            (b"POST /jobs HTTP/1.0\r\nContent-Length: 2\r\n\r\na", 1),
+            (b"POST /jobs HTTP/1.0\r\nContent-Length: 2\r\n\r\nab", 21),
+        ];
+        for (name, side) in sides() {
+            for (http, number) in cases {
+                let (given, _) = forward_under(side, "/jobs|p;2|", http, 0);
+                assert_eq!(given, Err(number), "{name}: {}", String::from_utf8_lossy(http));
+            }
+        }
+    }
+
+    /// Mounts with limits of their own, this many, and a last one for /jobs with which the block has this many bytes.
+    fn many(count: usize, len: usize) -> String {
+        let first: String = (0..count).map(|at| format!("/m{at}|p;{at:010}|")).collect();
+        let pool = "p".repeat(len - first.len() - "/jobs|;5|".len());
+        format!("{first}/jobs|{pool};5|")
+    }
+
+    /// 32 mounts and 4,096 bytes; one more of either is 20.
+    #[test]
+    fn the_most_mounts() {
+        let most = many(31, 4_096);
+        let start = most.find("/jobs|").expect("the last mount") + "/jobs|".len();
+        let len = most.len() - start - ";5|".len();
+        for (name, side) in sides() {
+            let given = forward(side, &most, &post("/jobs", 5, 5)).map(|numbers| [numbers[1], numbers[2]]);
+            assert_eq!(given, Ok([start as u64, len as u64]), "{name}");
+            assert_eq!(forward(side, &most, &post("/jobs", 6, 6)), Err(9), "{name}");
+            assert!(forward(side, &most, &post("/m30", 30, 30)).is_ok(), "{name}");
+            assert_eq!(forward(side, &most, &post("/m30", 31, 31)), Err(9), "{name}");
+            assert_eq!(forward(side, &many(31, 4_097), b""), Err(20), "{name}: a byte more");
+            assert_eq!(forward(side, &many(32, 1_000), b""), Err(20), "{name}: a mount more");
+        }
+    }
+
+    /// The reader and the writer keep 1,048,576, also where a mount refuses such a body.
+    #[test]
+    fn reader_and_writer_keep_the_old_limit() {
+        for (name, side) in sides() {
+            for (stated, accepted) in [(MAX_BODY, true), (MAX_BODY + 1, false)] {
+                let (block, body) = (bytes(&format!("CONTENT_LENGTH|{stated}|SCGI|1|")), vec![b'b'; stated]);
+                let request = [format!("{}:", block.len()).as_bytes(), &block, b",", &body].concat();
+                let expected = if accepted { Ok(request.len() as u64) } else { Err(9) };
+                assert_eq!(forward(side, "/jobs|p;5|", &post("/jobs", stated, stated)), Err(9), "{name}");
+                assert_eq!(side.read(&request).map(|places| places.used), expected, "{name}, read");
+                let written = side.write(&block, &body, &mut vec![0; request.len()]).map(|written| written.bytes);
+                assert_eq!(written, expected, "{name}, write");
             }
         }
     }

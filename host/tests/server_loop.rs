@@ -19,8 +19,8 @@ fn a_check_at_the_start() {
     for _ in 0..20_000 {
         let good = lent::good(&mut random);
         let blocks = match random.below(3) {
-            0 => lent::at_limit(&mut random).blocks(),
-            1 => lent::breach(&mut random),
+            0 => lent::at_limit(&mut random, good.clone()).blocks(),
+            1 => lent::breach(&mut random, good.clone()),
             _ => good.blocks(),
         };
         let start = code(&blocks, b"", &mut out);

@@ -61,13 +61,17 @@ fn ports() {
     show_site(b"SERVER_SOFTWARE\0g\0SERVER_PORT\018446744073709551617\0");
 }
 
-pub fn show_mounts(mounts: &[u8]) {
+pub fn show_request(mounts: &[u8], http: &[u8]) {
     show_under(
         b"REMOTE_ADDR\01\0",
         b"SERVER_NAME\0q\0SERVER_PORT\080\0SERVER_SOFTWARE\0g\0",
         mounts,
-        b"GET /jobs HTTP/1.0\r\n\r\n",
+        http,
     );
+}
+
+pub fn show_mounts(mounts: &[u8]) {
+    show_request(mounts, b"GET /jobs HTTP/1.0\r\n\r\n");
 }
 
 // Each name begins with a slash and does not end with one; each pool has a byte.

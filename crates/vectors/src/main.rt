@@ -10,6 +10,7 @@ mod gateway_lent; // the step: what it is lent
 mod gateway_order; // the step: the order of its refusals
 mod gateway_limits; // the step: its largest inputs
 mod digits; // decimal numbers of ten and of eleven digits, in each call that reads one
+mod mount_limits; // the step: a limit of the body for each mount
 
 fn main() {
     scgi_cases::reader();
@@ -34,4 +35,5 @@ fn main() {
     gateway_order::all();
     gateway_limits::all();
     digits::all();
+    mount_limits::all();
 }

@@ -1,5 +1,6 @@
 //! Good HTTP requests in parts.
-use super::{digits, Pair};
+use super::digits;
+use super::lent::Mount;
 use crate::random::Random;
 use crate::refusal::MAX_BODY;
 
@@ -12,6 +13,8 @@ pub struct Draft {
     /// Field lines without their ends.
     pub fields: Vec<Vec<u8>>,
     pub body: Vec<u8>,
+    /// The limit of the mount that the target is under.
+    pub limit: usize,
 }
 
 impl Draft {
@@ -33,6 +36,12 @@ impl Draft {
         self.fields.insert(at, field.to_vec());
     }
 
+    /// States a length of the body in place of the one before.
+    pub fn state(&mut self, random: &mut Random, stated: &str) {
+        self.remove("Content-Length");
+        self.insert(random, format!("Content-Length: {stated}").as_bytes());
+    }
+
     /// Takes out the field lines of a name.
     pub fn remove(&mut self, name: &str) {
         let prefix = format!("{name}:").to_ascii_lowercase().into_bytes();
@@ -50,14 +59,16 @@ const NAMES: &[&str] = &[
 const VALUES: &[&str] = &["", "x", "a, b", "\u{e9}\u{ff}", "x\ty", "1", "close", "q=1; r=2", "a;", "; a", "text/plain", "~ ~", ":", ": ,"];
 
 /// A good request to one of the mounts.
-pub fn good(random: &mut Random, mounts: &[Pair]) -> Draft {
+pub fn good(random: &mut Random, mounts: &[Mount]) -> Draft {
     let is_1_1 = random.chance(70);
+    let mount = &mounts[random.below(mounts.len())];
     let mut draft = Draft {
         method: random.pick(METHODS).as_bytes().to_vec(),
-        target: target(random, mounts),
+        target: target(random, &mount.name),
         version: if is_1_1 { b"HTTP/1.1".to_vec() } else { b"HTTP/1.0".to_vec() },
         fields: Vec::new(),
         body: Vec::new(),
+        limit: mount.limit,
     };
     for _ in 0..random.small() {
         let field = field(random);
@@ -77,12 +88,15 @@ pub fn good(random: &mut Random, mounts: &[Pair]) -> Draft {
     draft
 }
 
+/// A body of at most the limit, often of just as many bytes where that is not many.
 fn add_body(random: &mut Random, draft: &mut Draft) {
-    let len = match random.below(2000) {
-        0 => random.around(MAX_BODY).min(MAX_BODY),
+    let drawn = match random.below(2000) {
+        0 => random.around(MAX_BODY),
         1..=40 => random.below(3000),
+        41..=1000 if draft.limit < 3000 => draft.limit,
         _ => random.small(),
     };
+    let len = drawn.min(draft.limit);
     draft.body = vec![random.number() as u8; len];
     let stated = digits::few(random, len);
     let name = random.pick(&["Content-Length", "content-length", "CONTENT-LENGTH"]);
@@ -96,9 +110,9 @@ pub fn field(random: &mut Random) -> Vec<u8> {
     format!("{}:{before}{}{after}", random.pick(NAMES), random.pick(VALUES)).into_bytes()
 }
 
-/// A target under one of the mounts, sometimes beside it.
-fn target(random: &mut Random, mounts: &[Pair]) -> Vec<u8> {
-    let mut path = mounts[random.below(mounts.len())].0.clone();
+/// A target under a mount, sometimes under a longer one.
+fn target(random: &mut Random, mount: &[u8]) -> Vec<u8> {
+    let mut path = mount.to_vec();
     for _ in 0..random.small().min(6) {
         path.extend_from_slice(random.pick(&["/7", "/", "/a.b", "/...", "/x y", "/\u{e9}", "/b", "/old", "/%"]).as_bytes());
     }

@@ -1,8 +1,9 @@
 //! Inputs for the gateway.
 use super::damage::damage;
 use super::draft::good;
+use super::lent::{self, Mount};
+use super::room;
 use super::spoil::{at_limit, spoil};
-use super::{lent, room, Pair};
 use crate::calls::{Blocks, Calls};
 use crate::case::{Call, Case};
 use crate::random::Random;
@@ -10,7 +11,7 @@ use crate::reference::Reference;
 use crate::refusal::*;
 
 /// Bytes of a request to these mounts: good, at a limit, with one or two faults, damaged, cut, or with more bytes behind.
-pub fn http_input(random: &mut Random, mounts: &[Pair]) -> Vec<u8> {
+pub fn http_input(random: &mut Random, mounts: &[Mount]) -> Vec<u8> {
     let mut draft = good(random, mounts);
     match random.below(20) {
         0..=8 => {
@@ -40,8 +41,8 @@ pub fn http_input(random: &mut Random, mounts: &[Pair]) -> Vec<u8> {
 pub fn gateway_case(random: &mut Random) -> Case {
     let good = lent::good(random);
     let mut inputs = match random.below(20) {
-        0 => lent::breach(random),
-        1 => lent::at_limit(random).blocks(),
+        0 => lent::breach(random, good.clone()),
+        1 => lent::at_limit(random, good.clone()).blocks(),
         _ => good.blocks(),
     };
     inputs.push(http_input(random, &good.mounts));

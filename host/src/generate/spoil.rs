@@ -18,11 +18,7 @@ const BAD_FIELDS: &[&[u8]] = &[
 /// Makes a good request wrong in the way that a number from 9 to 19 stands for.
 pub fn spoil(random: &mut Random, draft: &mut Draft, number: Refusal) {
     match number {
-        BODY_LONG => {
-            draft.remove("Content-Length");
-            let stated = digits::large(random);
-            draft.insert(random, format!("Content-Length: {stated}").as_bytes());
-        }
+        BODY_LONG => spoil_body(random, draft),
         HEAD_LONG => {
             let len = MAX_HEAD + random.small();
             fill_head(random, draft, len);
@@ -38,6 +34,16 @@ pub fn spoil(random: &mut Random, draft: &mut Draft, number: Refusal) {
             draft.insert(random, field.as_bytes());
         }
         _ => draft.target = random.pick(&["/", "/nothing", "/Jobs", "/jobs%78", "/ajobs", "/%6Aob", "/a%2e", "//jobs"]).into(),
+    }
+}
+
+/// More bytes than any mount allows, or a few more than the draft's, which are there or not.
+fn spoil_body(random: &mut Random, draft: &mut Draft) {
+    let len = draft.limit + random.pick(&[1, 1, 2, 10]);
+    let stated = if random.chance(30) { digits::large(random) } else { digits::few(random, len) };
+    draft.state(random, &stated);
+    if len < 3000 && random.chance(50) {
+        draft.body.resize(len, b'b');
     }
 }
 
@@ -106,8 +112,7 @@ fn spoil_content(random: &mut Random, draft: &mut Draft) {
         0 => {
             let bad = random.pick(&["5, 5", "", "x", "+5", "-1", "0x5", "5 5", "5."]);
             let stated = if random.chance(50) { digits::many(random) } else { bad.into() };
-            draft.remove("Content-Length");
-            draft.insert(random, format!("Content-Length: {stated}").as_bytes());
+            draft.state(random, &stated);
         }
         1 => {
             draft.insert(random, b"Content-Length: 0");
@@ -156,9 +161,12 @@ pub fn at_limit(random: &mut Random, draft: &mut Draft) {
             fill_head(random, draft, MAX_HEAD);
         }
         _ => {
-            draft.remove("Content-Length");
-            let stated = random.around(MAX_BODY);
-            draft.insert(random, format!("Content-Length: {stated}").as_bytes());
+            let limit = random.pick(&[MAX_BODY, draft.limit]);
+            let len = random.around(limit);
+            draft.state(random, &len.to_string());
+            if len < 3000 {
+                draft.body.resize(len, b'b');
+            }
         }
     }
 }

@@ -20,14 +20,14 @@ pub fn forward(blocks: Blocks, http: &[u8], out: &mut [u8]) -> Result<Forwarded,
     let fields = Fields::of(lines)?;
     let (stated, content_type) = fields.content(line.is_1_1())?;
     let mount = lent.mount(target.path).ok_or(MOUNT)?;
-    if stated > MAX_BODY as u64 {
+    if stated > mount.limit {
         return Err(BODY_LONG);
     }
     let body_len = stated as usize;
     let body = http[head_len..].get(..body_len).ok_or(CUT)?;
     let variables = Variables { lent: &lent, line: &line, target: &target, mount: mount.name, content_type, body_len, fields: &fields };
     let written = write_request(&variables, body, out)?;
-    let numbers = [written, mount.value_start, mount.value.len(), head_len + body_len];
+    let numbers = [written, mount.pool_start, mount.pool.len(), head_len + body_len];
     Ok(Forwarded::of(numbers.map(|number| number as u64)))
 }
 

@@ -11,7 +11,16 @@ pub struct Lent<'a> {
     pub remote_addr: &'a [u8],
     /// AUTH_TYPE and REMOTE_USER.
     pub user: Option<(&'a [u8], &'a [u8])>,
-    mounts: Vec<Header<'a>>,
+    mounts: Vec<Mount<'a>>,
+}
+
+/// A path that requests may go to, the pool that takes them, and the most bytes that a body may have there.
+pub struct Mount<'a> {
+    pub name: &'a [u8],
+    pub pool: &'a [u8],
+    /// Where the pool starts in the mounts block.
+    pub pool_start: usize,
+    pub limit: u64,
 }
 
 impl<'a> Lent<'a> {
@@ -23,10 +32,7 @@ impl<'a> Lent<'a> {
     fn values(facts: &'a [u8], site: &'a [u8], mounts: &'a [u8]) -> Option<Self> {
         let facts = lent_block(facts, MAX_FACTS)?;
         let site = lent_block(site, MAX_FACTS)?;
-        let mounts = lent_block(mounts, MAX_MOUNTS)?;
-        if mounts.len() > MAX_MOUNT_COUNT || !mounts.iter().all(is_mount) {
-            return None;
-        }
+        let mounts = all_mounts(mounts)?;
         let server = |name| not_empty(value_of(&facts, name).or_else(|| value_of(&site, name)));
         let server_port = server(b"SERVER_PORT")?;
         if !is_port(server_port) {
@@ -47,8 +53,22 @@ impl<'a> Lent<'a> {
     }
 
     /// The longest mount that fits the decoded path.
-    pub fn mount(&self, path: &[u8]) -> Option<&Header<'a>> {
+    pub fn mount(&self, path: &[u8]) -> Option<&Mount<'a>> {
         self.mounts.iter().filter(|mount| fits(mount.name, path)).max_by_key(|mount| mount.name.len())
+    }
+}
+
+impl<'a> Mount<'a> {
+    /// The mount of a header. Its value is the pool, or the pool, `;` and the limit in digits.
+    fn of(header: &Header<'a>) -> Option<Self> {
+        let Header { name, value, value_start } = *header;
+        let (pool, limit) = match value.iter().position(|&byte| byte == b';') {
+            Some(at) => (&value[..at], decimal(&value[at + 1..])?),
+            None => (value, MAX_BODY as u64),
+        };
+        let is_name = name.starts_with(b"/") && !name.ends_with(b"/");
+        let mount = Mount { name, pool, pool_start: value_start, limit };
+        (is_name && !pool.is_empty() && limit <= MAX_BODY as u64).then_some(mount)
     }
 }
 
@@ -63,8 +83,12 @@ fn not_empty(value: Option<&[u8]>) -> Option<&[u8]> {
     value.filter(|bytes| !bytes.is_empty())
 }
 
-fn is_mount(mount: &Header) -> bool {
-    mount.name.starts_with(b"/") && !mount.name.ends_with(b"/") && !mount.value.is_empty()
+fn all_mounts(block: &[u8]) -> Option<Vec<Mount<'_>>> {
+    let headers = lent_block(block, MAX_MOUNTS)?;
+    if headers.len() > MAX_MOUNT_COUNT {
+        return None;
+    }
+    headers.iter().map(Mount::of).collect()
 }
 
 /// 1 to 65535 without a leading zero.
