@@ -6,21 +6,20 @@ use mathlib.Core.List.{List, [], _++_}
 use native.Mathlib.Nat.{le-refl}
 use lib.ListN.{length}
 use Rattle.octets.specs.Outcome.{gives}
-use Rattle.octets.proofs.Outcomes.{given-gives, gives-once}
-use Rattle.headers.specs.Block.{Header, Among, here, later, printed}
+use Rattle.octets.proofs.Outcomes.{gives-once}
+use Rattle.headers.specs.Block.{printed}
 use Rattle.scgi.specs.Write.{writeOf}
 use Rattle.scgi.proofs.Claims.{request-once, writes-exactly, write-then-read}
 use Rattle.targets.specs.Target.{Target, targetOf}
-use Rattle.mounts.specs.Mounts.{Mount, Route, mountOf, mountFor, routeOf}
-use Rattle.mounts.specs.Claims.{MountOf, Each, one-more, Among as MountAmong, here as first-mount, later as later-mount}
-use Rattle.mounts.proofs.Claims.{mount-is-longest, mounts-are-headers}
+use Rattle.mounts.specs.Mounts.{Mount, Route, mountFor, routeOf}
 use Rattle.lent.specs.Lent.{Lent, lentOf}
 use Rattle.lent.proofs.Claims.{lent-mounts}
 use Rattle.variables.specs.Meaning.{Meaning}
 use Rattle.variables.specs.Variables.{variables}
 use Rattle.gateway.specs.Step.{bytesOf, Forward, meaningAt, forwardOf}
-use Rattle.gateway.specs.Claims.{BytesExactlyMeaning, WrittenIsAccepted, PoolStands, PoolIsValue}
+use Rattle.gateway.specs.Claims.{BytesExactlyMeaning, WrittenIsAccepted, PoolIsValue}
 use Rattle.variables.proofs.Claims.{variables-say-meaning}
+use Rattle.gateway.proofs.Winners.{winner}
 use Rattle.gateway.proofs.Links.{lent-of, without-room}
 use Rattle.gateway.proofs.Accepted.{Account, account}
 
@@ -80,39 +79,24 @@ written-is-accepted facts site mounts http rest room f e =
       is-target = a .is-target;
       wins = a .wins;
       pool = a .pool;
+      within = a .within;
       bytes = a .bytes;
       request = a .request;
       read = write-then-read (printed hs) (a .meaning .body) (f .scgi) rest (length (f .scgi)) w;
     }
 
--- The pool.
-
--- the header of one of the mounts
-record Made (block : List ℕ) (m : Mount) (hs : List Header) : Type 0 where
-  header : Header
-  among : Among header hs
-  of : MountOf block m header
-
-made : {block : List ℕ} {m : Mount} {ms : List Mount} {hs : List Header} → MountAmong m ms → Each block ms hs → Made block m hs
-made first-mount (one-more {m} {h} p ps) = record { header = h; among = here; of = p }
-made (later-mount a) (one-more p ps) =
-    let o = made a ps in
-    record { header = o .header; among = later (o .among); of = o .of }
-
 pub pool-is-value : PoolIsValue
 pool-is-value facts site mounts http rest f w =
     let ms : List Mount = w .lent .mounts in
-    let m = w .mount in
-    let say = mounts-are-headers mounts ms (lent-mounts facts site mounts (w .lent) (w .is-lent)) in
-    let n = mount-is-longest .wins ms (w .target .path) m (given-gives (mountOf ms (w .target .path)) 19 m (w .wins)) .among in
-    let o = made n (say .each) in
+    let o = winner mounts (w .target .path) ms (w .mount) (lent-mounts facts site mounts (w .lent) (w .is-lent)) (w .wins) in
     let p = w .pool in
     record {
-      hs = say .hs;
+      hs = o .hs;
       header = o .header;
-      are = say .are;
+      are = o .are;
       among = o .among;
       name = o .of .name;
       inside = rw (p .0, p .1) (o .of .inside);
       pool = rw (p .0, p .1) (o .of .pool);
+      limit = o .of .limit;
     }

@@ -1,3 +1,4 @@
+pub mod Winners
 pub mod Links
 pub mod Fits
 pub mod Accepted

@@ -1,16 +1,16 @@
 -- What an accepted request says of the links of the step's chain.
 -- Assumes nothing.
 use Prim.Native.Nat.{ℕ, _+_, _-_, _≤_}
-use mathlib.Core.Path.{_≡_, refl, sym}
+use mathlib.Core.Path.{_≡_, refl, sym, subst}
 use mathlib.Core.List.{List}
-use mathlib.Core.Option.{some}
+use native.Mathlib.Omega.{arith}
 use lib.Dec.{leb}
-use lib.ListN.{length, take, drop}
-use borrow.Author.Tests.{leb-true}
+use lib.ListN.{length, take, drop, length-take}
+use borrow.Author.Tests.{le-leb, leb-true}
 use Rattle.octets.specs.Outcome.{Outcome, gives, need}
-use Rattle.octets.proofs.Outcomes.{need-gives, given-gives, gives-once, then-gives}
+use Rattle.octets.proofs.Outcomes.{need-gives, gives-once, then-gives}
 use Rattle.http.specs.Head.{headOf}
-use Rattle.mounts.specs.Mounts.{Mount, mountOf, mountFor, routeOf}
+use Rattle.mounts.specs.Mounts.{Mount, mountFor, routeOf}
 use Rattle.lent.specs.Lent.{Lent}
 use Rattle.variables.specs.Meaning.{meaningOf}
 use Rattle.gateway.specs.Claims.{RoomIsLast}
@@ -19,17 +19,29 @@ use Rattle.gateway.specs.Body.{Body, bodyOf}
 use Rattle.gateway.specs.Step.{bytesOf, Forward, forwardBy, forwardOf, stepWith}
 
 -- of a body
-pub record BodyLinks (http : List ℕ) (h n : ℕ) (b : Body) : Type 0 where
-  pub limit : n ≤ 1048576
-  pub there : h + n ≤ length http
-  pub is : b ≡ record { body = take n (drop h http); used = h + n }
+pub record BodyLinks (most : ℕ) (s : List ℕ) (b : Body) : Type 0 where
+  pub is : b .body ≡ take (b .used) s
+  pub there : b .used ≤ length s
+  pub limit : b .used ≤ most
 
-pub body-links : (http : List ℕ) (h n : ℕ) (b : Body) → bodyOf http h n ≡ gives b → BodyLinks http h n b
+pub body-links : (most n : ℕ) (s : List ℕ) (b : Body) → bodyOf most n s ≡ gives b → BodyLinks most s b
 unfolding bodyOf
-body-links http h n b e =
-    let c = need-gives (leb n 1048576) 9 _ b e in
-    let d = need-gives (leb (h + n) (length http)) 1 _ b (c .1) in
-    record { limit = leb-true n 1048576 (c .0); there = leb-true (h + n) (length http) (d .0); is = sym (gives-once _ b (d .1)) }
+body-links most n s b e =
+    let c = need-gives (leb n most) 9 _ b e in
+    let d = need-gives (leb n (length s)) 1 _ b (c .1) in
+    subst (BodyLinks most s) (gives-once _ b (d .1)) (record { is = refl; there = leb-true n (length s) (d .0); limit = leb-true n most (c .0) })
+
+-- its length
+pub body-length : (most : ℕ) (s : List ℕ) (b : Body) → BodyLinks most s b → length (b .body) ≤ most
+body-length most s b l = rw (l .is) (simp length-take (omega (arith, l .limit)))
+
+-- a body within a limit is within a wider one
+pub body-wider : (most wide n : ℕ) (s : List ℕ) (b : Body) → most ≤ wide → bodyOf most n s ≡ gives b → bodyOf wide n s ≡ gives b
+unfolding bodyOf
+body-wider most wide n s b w e =
+    let c = need-gives (leb n most) 9 _ b e in
+    let l : n ≤ most = leb-true n most (c .0) in
+    rw (le-leb n wide (omega arith)) (c .1)
 
 -- of the chain, where k is what is lent
 pub record Links (k : Lent) (http : List ℕ) (f : Forward) : Type 0 where
@@ -39,9 +51,9 @@ pub record Links (k : Lent) (http : List ℕ) (f : Forward) : Type 0 where
   pub b : Body
   pub head : headOf http ≡ gives h
   pub request : requestOf (take (h - 4) http) ≡ gives q
-  pub mount : mountOf (k .mounts) (q .path) ≡ some m
-  pub body : bodyOf http h (q .bodyLength) ≡ gives b
-  pub written : f ≡ forwardBy m (bytesOf (k .settings) (routeOf m (q .path)) (meaningOf (q .first) (q .fields) (b .body))) (b .used)
+  pub mount : mountFor (k .mounts) (q .path) ≡ gives m
+  pub body : bodyOf (m .limit) (q .bodyLength) (drop h http) ≡ gives b
+  pub written : f ≡ forwardBy m (bytesOf (k .settings) (routeOf m (q .path)) (meaningOf (q .first) (q .fields) (b .body))) (h + b .used)
 
 pub links : (k : Lent) (http : List ℕ) (f : Forward) → forwardOf (gives k) http ≡ gives f → Links k http f
 unfolding forwardOf
@@ -50,7 +62,7 @@ links k http f e =
     let d = then-gives (requestOf (take (c .it - 4) http)) _ f (c .next) in
     let q : Request = d .it in
     let g = then-gives (mountFor (k .mounts) (q .path)) _ f (d .next) in
-    let i = then-gives (bodyOf http (c .it) (q .bodyLength)) _ f (g .next) in
+    let i = then-gives (bodyOf (g .it .limit) (q .bodyLength) (drop (c .it) http)) _ f (g .next) in
     record {
       h = c .it;
       q = q;
@@ -58,7 +70,7 @@ links k http f e =
       b = i .it;
       head = c .first;
       request = d .first;
-      mount = given-gives (mountOf (k .mounts) (q .path)) 19 (g .it) (g .first);
+      mount = g .first;
       body = i .first;
       written = sym (gives-once _ f (i .next));
     }

@@ -1,10 +1,10 @@
 -- Which numbers the step can give.
 -- Assumes nothing.
-use Prim.Native.Nat.{ℕ, _+_, _-_}
+use Prim.Native.Nat.{ℕ, _-_}
 use mathlib.Core.Path.{_≡_, refl, ap}
 use mathlib.Core.List.{List, [], _∷_}
 use lib.Dec.{leb}
-use lib.ListN.{length, take}
+use lib.ListN.{length, take, drop}
 use Rattle.octets.specs.Outcome.{Outcome, refused, gives}
 use Rattle.octets.specs.Kinds.{oneOf}
 use Rattle.octets.specs.Scan.{allOf}
@@ -29,9 +29,9 @@ request-numbers : (head : List ℕ) → Refuses stepNumbers (requestOf head)
 unfolding allOf
 request-numbers head = refuses-within requestNumbers refl (requestOf head) (Request.numbers-hold head)
 
-body-numbers : (http : List ℕ) (h n : ℕ) → Refuses stepNumbers (bodyOf http h n)
+body-numbers : (most n : ℕ) (s : List ℕ) → Refuses stepNumbers (bodyOf most n s)
 unfolding bodyOf
-body-numbers http h n = refuses-need (leb n 1048576) 9 refl (refuses-need (leb (h + n) (length http)) 1 refl not-refused)
+body-numbers most n s = refuses-need (leb n most) 9 refl (refuses-need (leb n (length s)) 1 refl not-refused)
 
 lent-numbers : (facts site mounts : List ℕ) → Refuses stepNumbers (lentOf facts site mounts)
 lent-numbers facts site mounts = by (lentOf facts site mounts) refl
@@ -47,7 +47,7 @@ forward-numbers lent number http =
     (λ k. refuses-then (head-numbers http)
     (λ h. refuses-then (request-numbers (take (h - 4) http))
     (λ q. refuses-then (refuses-given (mountOf (k .mounts) (q .path)) 19 refl)
-    (λ m. refuses-then (body-numbers http h (q .bodyLength))
+    (λ m. refuses-then (body-numbers (m .limit) (q .bodyLength) (drop h http))
     (λ b. not-refused)))))
 
 pub numbers-hold : NumbersHold

@@ -10,6 +10,7 @@ use lib.Dec.{leb}
 use lib.ListN.{length, take, drop, length-append}
 use lib.Seq.{length-take-le, take-append-seam}
 use Rattle.octets.specs.Outcome.{Outcome, refused, gives, then, need, given}
+use Rattle.octets.proofs.Lists.{from}
 use Rattle.octets.proofs.Outcomes.{given-gives, gives-once, then-gives}
 use Rattle.headers.specs.Block.{printed}
 use Rattle.scgi.specs.Write.{inRoom, writingOutcome, outputAfter, WrittenOut}
@@ -29,11 +30,12 @@ use Rattle.variables.specs.Block.{routeAt, blockAt}
 use Rattle.variables.specs.declared.sources.Sources.{Sources}
 use Rattle.request.specs.RequestRead.{lineIn, pathIn, fieldsIn}
 use Rattle.request.specs.Request.{Request, requestOf}
-use Rattle.gateway.specs.Body.{Body, bodyOf, endOf, bodyOutcome}
-use Rattle.gateway.specs.declared.body.Body.the-variants.{End, Refused as BodyRefused}
+use Rattle.gateway.specs.Body.{Body, bodyOf, lengthOf, bodyOutcome}
+use Rattle.gateway.specs.declared.body.Body.the-variants.{Bytes as BodyBytes, Refused as BodyRefused}
 use Rattle.gateway.specs.Step.{bytesOf, Forward, forwardBy, forwardOf, stepWith, stepOf}
 use Rattle.gateway.specs.Stepping.{Stepped, steppingBy}
 use Rattle.gateway.specs.declared.step.Stepping.the-variants.{Refused}
+use Rattle.gateway.proofs.Winners.{winner}
 use Rattle.gateway.proofs.Links.{body-links}
 
 -- A refusal leaves the output as it is.
@@ -67,14 +69,14 @@ module _ (facts site mounts http : List ℕ) (room : ℕ) where
         step-mount k w = rw (e, f, r, w)
 
         module _ (m : Mount) (w : mountFor (l .mounts) (q .path) ≡ gives m) where
-          pub step-body : (k : ℕ) → bodyOf http h (q .bodyLength) ≡ refused k → o ≡ refused k
+          pub step-body : (k : ℕ) → bodyOf (m .limit) (q .bodyLength) (drop h http) ≡ refused k → o ≡ refused k
           unfolding stepWith forwardOf
           step-body k b = rw (e, f, r, w, b)
 
-          module _ (b : Body) (t : bodyOf http h (q .bodyLength) ≡ gives b) where
+          module _ (b : Body) (t : bodyOf (m .limit) (q .bodyLength) (drop h http) ≡ gives b) where
             -- what is written
             abbrev forward : Forward
-            forward = forwardBy m (bytesOf (l .settings) (routeOf m (q .path)) (meaningOf (q .first) (q .fields) (b .body))) (b .used)
+            forward = forwardBy m (bytesOf (l .settings) (routeOf m (q .path)) (meaningOf (q .first) (q .fields) (b .body))) (h + b .used)
 
             pub step-written : o ≡ need (leb (length (forward .scgi)) room) 21 (gives forward)
             unfolding stepWith forwardOf
@@ -107,8 +109,8 @@ answered-by f d after w x = by (leb (length (f .scgi)) (length d)) w (x .answer)
 -- The mount that wins, by what the search says.
 
 -- the mount that a search names by numbers: its name is the path's front
-abbrev pub mountBy : List ℕ → ℕ → ℕ → ℕ → Mount
-mountBy path n start len = record { name = take n path; poolStart = start; poolLength = len }
+abbrev pub mountBy : List ℕ → ℕ → ℕ → ℕ → ℕ → Mount
+mountBy path n start len most = record { name = take n path; poolStart = start; poolLength = len; limit = most }
 
 module _ (mounts path : List ℕ) (ms : List Mount) (are : mountsOf mounts ≡ gives ms) where
   -- the search finds the mount that wins
@@ -122,34 +124,31 @@ module _ (mounts path : List ℕ) (ms : List Mount) (are : mountsOf mounts ≡ g
       by none q = cc
       by (some m) q = cc
 
-  pub record Won (n start len : ℕ) : Type 0 where
-    pub wins : mountFor ms path ≡ gives (mountBy path n start len)
+  pub record Won (n start len most : ℕ) : Type 0 where
+    pub wins : mountFor ms path ≡ gives (mountBy path n start len most)
     pub inside : n ≤ length path
+    pub small : most ≤ 1048576
 
-  pub won : (n start len : ℕ) → mountOutcome (Found n start len) ≡ searchOf mounts path → Won n start len
-  won n start len e =
+  pub won : (n start len most : ℕ) → mountOutcome (Found n start len most) ≡ searchOf mounts path → Won n start len most
+  won n start len most e =
       let h = then-gives (mountFor ms path) (λ m. gives (placeOf m)) _ (sym (e ∙ search-wins)) in
       let m : Mount = h .it in
-      let p : placeOf m ≡ record { nameLength = n; poolStart = start; poolLength = len } = gives-once _ _ (h .next) in
+      let p : placeOf m ≡ record { nameLength = n; poolStart = start; poolLength = len; limit = most } = gives-once _ _ (h .next) in
       let l : length (m .name) ≡ n = ap (λ (x : MountPlace). x .nameLength) p in
       let t : m .name ++ drop (length (m .name)) path ≡ path = route-is-path ms path m (given-gives (mountOf ms path) 19 m (h .first)) in
       let f : take n path ≡ m .name =
       ap (λ (x : ℕ). take x path) (sym l) ∙ ap (take (length (m .name))) (sym t) ∙ take-append-seam (m .name) (drop (length (m .name)) path) in
-      let is : m ≡ mountBy path n start len = mount-is m (take n path) start len (sym f) (ap (λ (x : MountPlace). x .poolStart) p) (ap (λ (x : MountPlace). x .poolLength) p) in
+      let named = ap {B = Mount} (λ (x : List ℕ). record { name = x; poolStart = m .poolStart; poolLength = m .poolLength; limit = m .limit }) (sym f) in
+      let placed = ap {B = Mount} (λ (x : MountPlace). record { name = take n path; poolStart = x .poolStart; poolLength = x .poolLength; limit = x .limit }) p in
       record {
-        wins = h .first ∙ ap gives is;
+        wins = h .first ∙ ap gives (named ∙ placed);
         inside = omega (arith, l, length-append (m .name) (drop (length (m .name)) path), ap length t);
+        small = omega (arith, winner mounts path ms m are (h .first) .of .small, ap (λ (x : MountPlace). x .limit) p);
       }
-    where
-      mount-is : (m : Mount) (name : List ℕ) (s t : ℕ) → m .name ≡ name → m .poolStart ≡ s → m .poolLength ≡ t → m ≡ record { name = name; poolStart = s; poolLength = t }
-      mount-is m name s t a b c =
-          ap {B = Mount} (λ (x : List ℕ). record { name = x; poolStart = m .poolStart; poolLength = m .poolLength }) a
-          ∙ ap {B = Mount} (λ (x : ℕ). record { name = name; poolStart = x; poolLength = m .poolLength }) b
-          ∙ ap {B = Mount} (λ (x : ℕ). record { name = name; poolStart = s; poolLength = x }) c
 
 -- its route is the path, cut behind the name
-pub route-by : (path : List ℕ) (n start len : ℕ) → n ≤ length path → routeAt path n ≡ routeOf (mountBy path n start len) path
-route-by path n start len h = ap (λ (k : ℕ). record { scriptName = take n path; pathInfo = drop k path }) (sym (length-take-le n path h))
+pub route-by : (path : List ℕ) (n start len most : ℕ) → n ≤ length path → routeAt path n ≡ routeOf (mountBy path n start len most) path
+route-by path n start len most h = ap (λ (k : ℕ). record { scriptName = take n path; pathInfo = drop k path }) (sym (length-take-le n path h))
 
 -- n stored fields are n
 pub fields-count : (head ps : List ℕ) (k n : ℕ) → length (fieldsAt head ps k n) ≡ n
@@ -158,9 +157,9 @@ fields-count head ps k zero = refl
 fields-count head ps k (suc n) = ap suc (fields-count head ps (k + 1) n)
 
 -- The block that was written is that of the variables.
-module _ (facts site head places path : List ℕ) (k : Sources) (body : List ℕ) (start len : ℕ) where
+module _ (facts site head places path : List ℕ) (k : Sources) (body : List ℕ) (start len most : ℕ) where
   abbrev route : Route
-  route = routeOf (mountBy (pathIn path (k .line)) (k .name) start len) (pathIn path (k .line))
+  route = routeOf (mountBy (pathIn path (k .line)) (k .name) start len most) (pathIn path (k .line))
 
   abbrev meaning : Meaning
   meaning = meaningOf (lineIn head (k .line)) (fieldsIn head places (k .fields)) body
@@ -171,32 +170,36 @@ module _ (facts site head places path : List ℕ) (k : Sources) (body : List ℕ
   unfolding fixed
   block-is h size e =
       ap (blockAt facts site head places path k) e
-      ∙ ap (λ (r : Route). printed (variables (settingsAt facts site (k .settings)) r meaning)) (route-by (pathIn path (k .line)) (k .name) start len h)
+      ∙ ap (λ (r : Route). printed (variables (settingsAt facts site (k .settings)) r meaning)) (route-by (pathIn path (k .line)) (k .name) start len most h)
 
--- The body, by where it ends.
+-- The body, by its length in the bytes after a head of h bytes.
 
-module _ (http : List ℕ) (h n : ℕ) where
-  pub body-refused : (k : ℕ) → bodyOutcome (BodyRefused k) ≡ endOf http h n → bodyOf http h n ≡ refused k
-  body-refused k e = by (bodyOf http h n) e
+module _ (most n : ℕ) (http : List ℕ) (h : ℕ) where
+  -- as the code takes them
+  abbrev after : List ℕ
+  after = take (length http - h) (drop h http)
+
+  read-there : bodyOf most n after ≡ bodyOf most n (drop h http)
+  read-there = ap (bodyOf most n) (from http h)
+
+  pub body-refused : (k : ℕ) → bodyOutcome (BodyRefused k) ≡ lengthOf most n after → bodyOf most n (drop h http) ≡ refused k
+  body-refused k e = sym read-there ∙ by (bodyOf most n after) e
     where
       by : (o : Outcome Body) → refused k ≡ then o (λ b. gives (b .used)) → o ≡ refused k
       by (refused m) q = cc
       by (gives b) q = cc
 
   pub record BodyThere (u : ℕ) : Type 0 where
-    pub is : bodyOf http h n ≡ gives (record { body = take n (drop h http); used = u })
-    pub ends : u ≡ h + n
-    pub limit : n ≤ 1048576
-    pub inside : h + n ≤ length http
+    pub is : bodyOf most n (drop h http) ≡ gives (record { body = take u after; used = u })
+    pub limit : u ≤ most
+    pub inside : u ≤ length after
 
-  pub body-there : (u : ℕ) → bodyOutcome (End u) ≡ endOf http h n → BodyThere u
+  pub body-there : (u : ℕ) → bodyOutcome (BodyBytes u) ≡ lengthOf most n after → BodyThere u
   body-there u e =
-      let g = then-gives (bodyOf http h n) (λ b. gives (b .used)) u (sym e) in
-      let l = body-links http h n (g .it) (g .first) in
-      let z : u ≡ h + n = sym (gives-once (g .it .used) u (g .next)) ∙ ap (λ (b : Body). b .used) (l .is) in
-      record {
-        is = g .first ∙ ap gives (l .is) ∙ ap (λ (m : ℕ). gives (record { body = take n (drop h http); used = m })) (sym z);
-        ends = z;
-        limit = l .limit;
-        inside = l .there;
-      }
+      let g = then-gives (bodyOf most n after) (λ b. gives (b .used)) u (sym e) in
+      let l = body-links most n after (g .it) (g .first) in
+      let z : g .it .used ≡ u = gives-once (g .it .used) u (g .next) in
+      let b : g .it ≡ record { body = take u after; used = u } =
+      ap {B = Body} (λ (x : List ℕ). record { body = x; used = g .it .used }) (l .is)
+      ∙ ap {B = Body} (λ (x : ℕ). record { body = take x after; used = x }) z in
+      record { is = sym read-there ∙ g .first ∙ ap gives b; limit = omega (arith, l .limit); inside = omega (arith, l .there) }

@@ -3,9 +3,9 @@
 use Prim.Native.Nat.{ℕ}
 use Prim.Native.String.{String}
 use mathlib.Core.Path.{_≡_, refl}
-use mathlib.Core.List.{List, [], _∷_, map}
+use mathlib.Core.List.{List, [], _∷_, _++_, map}
 use Rattle.octets.specs.Text.{bytes, barred}
-use Rattle.octets.specs.Outcome.{refused, gives}
+use Rattle.octets.specs.Outcome.{Outcome, refused, gives}
 use Rattle.octets.specs.Kinds.{isDigit, isLetter, isHex, isToken, isName, isTarget, isValue, isBlank}
 use Rattle.octets.specs.Scan.{run, allOf, count}
 use Rattle.octets.specs.Trim.{kept}
@@ -25,6 +25,7 @@ use Rattle.targets.specs.Escape.{escapesRight, hexValue, decodedFrom}
 use Rattle.targets.specs.Target.{pathOf, queryOf, rawRight, noDots, segmentsRight, decodedRight, targetOf}
 use Rattle.http.specs.Fields.{Field, fieldOf, eachField}
 use Rattle.lent.specs.Settings.{settingsOf}
+use Rattle.mounts.specs.Value.{valueOf}
 use Rattle.mounts.specs.Mounts.{begins, ends, mountsFrom, mountsOf, mountOf}
 use Rattle.lent.specs.Lent.{lentOf}
 use Rattle.variables.specs.Fields.{passed, separator, addedBy, grouped, groupedOf}
@@ -32,13 +33,13 @@ use Rattle.request.specs.Named.{valuesOf}
 use Rattle.variables.specs.Variables.{fixed}
 use Rattle.request.specs.Request.{hostRight, contentOf, rulesOf, requestOf}
 use Rattle.gateway.specs.Body.{bodyOf}
-use Rattle.gateway.specs.Step.{forwardOf, stepWith}
-use Rattle.gateway.specs.Worked.{step, forward, answerTo, Case, cases}
+use Rattle.gateway.specs.Step.{Forward, forwardOf, stepWith, stepOf}
+use Rattle.gateway.specs.Worked.{facts, site, headText, step, forward, answerTo, Case, cases}
 use Rattle.gateway.specs.Claims.{WorkedCases}
 
 pub worked-cases : WorkedCases
 unfolding cases readOf lengthFrom checkBlock parted paired different isIn sameBytes numberFrom isDigit has stepWith lentOf
-    settingsOf mountsOf mountsFrom begins ends mountOf valueIn forwardOf headOf endFrom linesFrom requestOf requestLineOf versionOf
+    settingsOf mountsOf mountsFrom valueOf begins ends mountOf valueIn forwardOf headOf endFrom linesFrom requestOf requestLineOf versionOf
     isMethod isVersion isToken isLetter isHex isTarget isName isValue isBlank run allOf count kept escapesRight hexValue
     decodedFrom pathOf queryOf rawRight noDots segmentsRight decodedRight targetOf fieldOf eachField lowerOf rulesOf hostRight
     contentOf valuesOf
@@ -109,11 +110,43 @@ further =
 
 pub further-right : map (λ c. answerTo (c .asked)) further ≡ map (λ c. c .answer) further
 unfolding further sameBytes isIn numberFrom digitsIn isDigit printed parted paired different stepWith lentOf settingsOf mountsOf
-    mountsFrom begins ends mountOf valueIn forwardOf headOf endFrom linesFrom requestOf requestLineOf versionOf isMethod isVersion
+    mountsFrom valueOf begins ends mountOf valueIn forwardOf headOf endFrom linesFrom requestOf requestLineOf versionOf isMethod isVersion
     isToken isLetter isHex isTarget isName isValue isBlank run allOf count kept escapesRight hexValue decodedFrom pathOf queryOf
     rawRight noDots segmentsRight decodedRight targetOf fieldOf eachField lowerOf upperOf rulesOf hostRight contentOf valuesOf
     bodyOf fixed passed separator addedBy grouped
 further-right = refl
+
+-- 02 §13, of a stated length of 5 and an output without room: what is asked under these mounts, by the request line and the bytes after the
+-- head, and the refusal; 21 is the last, and so says that the body is accepted
+pub data Limited : Type 0 where
+  under : (mounts line body : String) → Limited
+
+abbrev pub limitedTo : Limited → Outcome Forward
+limitedTo (under ms line body) = stepOf facts site (barred ms) (headText (line ∷ "Content-Length: 5" ∷ []) ++ bytes body) 0
+
+pub record LimitedCase : Type 0 where
+  pub asked : Limited
+  pub number : ℕ
+
+unfoldable pub limited : List LimitedCase
+limited =
+    record { asked = under "/jobs|a;5|" "POST /jobs HTTP/1.0" "hello"; number = 21 }
+    ∷ record { asked = under "/jobs|a;4|" "POST /jobs HTTP/1.0" "hello"; number = 9 }
+    ∷ record { asked = under "/jobs|a;4|" "POST /jobs HTTP/1.0" "hell"; number = 9 }
+    ∷ record { asked = under "/jobs|a;5|" "POST /jobs HTTP/1.0" "hell"; number = 1 }
+    ∷ record { asked = under "/jobs|a;0|" "POST /jobsx HTTP/1.0" "hello"; number = 19 }
+    ∷ record { asked = under "/jobs|a;4|/jobs/old|b;0000000005|" "POST /jobs/old HTTP/1.0" "hello"; number = 21 }
+    ∷ record { asked = under "/jobs|a;5|/jobs/old|b;4|" "POST /jobs/old/7 HTTP/1.0" "hello"; number = 9 }
+    ∷ record { asked = under "/jobs|a;5|/x|b;|" "POST /jobs HTTP/1.0" "hello"; number = 20 }
+    ∷ []
+
+pub limited-right : map (λ c. limitedTo (c .asked)) limited ≡ map (λ c. refused (c .number)) limited
+unfolding limited sameBytes isIn numberFrom digitsIn isDigit printed parted paired different stepWith lentOf settingsOf mountsOf
+    mountsFrom valueOf begins ends mountOf valueIn forwardOf headOf endFrom linesFrom requestOf requestLineOf versionOf isMethod isVersion
+    isToken isLetter isHex isTarget isName isValue isBlank run allOf count kept escapesRight hexValue decodedFrom pathOf queryOf
+    rawRight noDots segmentsRight decodedRight targetOf fieldOf eachField lowerOf upperOf rulesOf hostRight contentOf valuesOf
+    bodyOf fixed passed separator addedBy grouped
+limited-right = refl
 
 -- a field by its name and its value
 abbrev pub field : String → String → Field

@@ -14,6 +14,7 @@ use Rattle.headers.specs.Block.{Header, Among, parsed, printed}
 use Rattle.scgi.specs.Grammar.{encoded, IsRequest}
 use Rattle.scgi.specs.Claims.{ReadBack}
 use Rattle.targets.specs.Target.{Target, targetOf}
+use Rattle.mounts.specs.Value.{poolOf, limitOf}
 use Rattle.mounts.specs.Mounts.{Mount, mountFor, routeOf}
 use Rattle.lent.specs.Lent.{Lent, lentOf}
 use Rattle.request.specs.Request.{Request, requestOf}
@@ -31,8 +32,8 @@ BytesExactlyMeaning =
     → (f .scgi ≡ f′ .scgi) ↔ (meaningAt http ≡ meaningAt http′)
 
 -- what is written for an accepted request: the variables of its meaning and the meaning's body, a request of the 2008 text within our
--- limits, under the mount that wins for the decoded path: "SCRIPT_NAME is that name, PATH_INFO the rest", and the pool is that mount's;
--- whatever stands behind it, the SCGI reader accepts it, with just this block and this body, and uses just the bytes written
+-- limits, under the mount that wins for the decoded path: "SCRIPT_NAME is that name, PATH_INFO the rest", the pool is that mount's, and the
+-- body is within that mount's limit; whatever stands behind it, the SCGI reader accepts it, with just this block and this body, and uses just the bytes written
 pub record WrittenFor (facts site mounts http rest : List ℕ) (f : Forward) : Type 0 where
   pub lent : Lent
   pub meaning : Meaning
@@ -43,6 +44,7 @@ pub record WrittenFor (facts site mounts http rest : List ℕ) (f : Forward) : T
   pub is-target : targetOf (meaning .target) ≡ gives target
   pub wins : mountFor (lent .mounts) (target .path) ≡ gives mount
   pub pool : (f .poolStart ≡ mount .poolStart) × (f .poolLength ≡ mount .poolLength)
+  pub within : length (meaning .body) ≤ mount .limit
   pub bytes : f .scgi ≡ encoded (variables (lent .settings) (routeOf mount (target .path)) meaning) (meaning .body)
   pub request : IsRequest (variables (lent .settings) (routeOf mount (target .path)) meaning) (meaning .body)
   pub read : ReadBack (printed (variables (lent .settings) (routeOf mount (target .path)) meaning)) (meaning .body) (f .scgi) rest
@@ -52,7 +54,8 @@ WrittenIsAccepted =
     (facts site mounts http rest : List ℕ) (room : ℕ) (f : Forward)
     → stepOf facts site mounts http room ≡ gives f → WrittenFor facts site mounts http rest f
 
--- the pool's place is that of the mount's value in the mounts block: "each value, the pool"
+-- the bytes at the pool's place are the pool of the mount's header in the mounts block, the part of its value before `;`, and the mount's
+-- limit is that value's
 pub record PoolStands (mounts : List ℕ) (m : Mount) (f : Forward) : Type 0 where
   pub hs : List Header
   pub header : Header
@@ -60,7 +63,8 @@ pub record PoolStands (mounts : List ℕ) (m : Mount) (f : Forward) : Type 0 whe
   pub among : Among header hs
   pub name : m .name ≡ header .name
   pub inside : f .poolStart + f .poolLength ≤ length mounts
-  pub pool : take (f .poolLength) (drop (f .poolStart) mounts) ≡ header .value
+  pub pool : take (f .poolLength) (drop (f .poolStart) mounts) ≡ poolOf (header .value)
+  pub limit : limitOf (header .value) ≡ gives (m .limit)
 
 -- .. of the mount that wins
 abbrev pub PoolIsValue : Type 0

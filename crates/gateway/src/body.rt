@@ -1,13 +1,11 @@
-// Where the body of a request ends.
+// The body of a request.
 ghost use mathlib.Core.Path.{_≡_};
-ghost use Prim.Native.Nat.{_≤_};
-ghost use lib.ListN.{length};
 ghost use Rattle.octets.specs.Outcome.{refusalOf};
-ghost use Rattle.gateway.specs.Body.{endOf, bodyOutcome};
+ghost use Rattle.gateway.specs.Body.{lengthOf, bodyOutcome};
 
 pub enum Body {
-    // How many bytes head and body have.
-    End(usize),
+    // How many bytes it has.
+    Bytes(usize),
     Refused(u8),
 }
 
@@ -17,23 +15,22 @@ impl Body {
         ensures { λ r. ⌜ r ≡ refusalOf (bodyOutcome self) ⌝ }
     {
         match self {
-            Body::End(_) => 0,
+            Body::Bytes(_) => 0,
             Body::Refused(n) => n,
         }
     }
 }
 
-// Where a body of len bytes behind a head ends: 9; 1 where it is cut short.
-pub fn body_end(http: &[u8], head_len: usize, len: u64) -> Body
-    requires { ⌜ «head_len» ≤ length (now http) ⌝ }
-    ensures { λ r. ⌜ bodyOutcome r ≡ endOf (now (http .entry)) «head_len» len ⌝ }
+// The body of stated length at the front of the bytes after a head: 9 above the limit; 1 where it is cut short.
+pub fn read_body(after: &[u8], stated: u64, limit: u64) -> Body
+    ensures { λ r. ⌜ bodyOutcome r ≡ lengthOf limit stated (now (after .entry)) ⌝ }
 {
-    if 1048576 < len {
+    if limit < stated {
         return Body::Refused(9);
     }
-    let used = head_len + len as usize;
-    if http.len() < used {
+    let len = stated as usize;
+    if after.len() < len {
         return Body::Refused(1);
     }
-    Body::End(used)
+    Body::Bytes(len)
 }

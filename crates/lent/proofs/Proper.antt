@@ -1,4 +1,4 @@
--- What is lent can stand in a block: no NUL in a value or a name.
+-- What is lent can stand in a block: no NUL in a value.
 -- Assumes nothing.
 use Prim.Native.Nat.{ℕ}
 use Prim.{absurd}
@@ -10,14 +10,11 @@ use native.Mathlib.Omega.{arith}
 use Rattle.octets.specs.Text.{bytes}
 use Rattle.octets.specs.Outcome.{gives, given}
 use Rattle.octets.specs.Compare.{sameBytes}
-use Rattle.octets.specs.Lists.{All, no-more, _&_, NoNul, isNil}
+use Rattle.octets.specs.Lists.{All, _&_, NoNul, isNil}
 use Rattle.octets.proofs.Outcomes.{need-gives, given-gives, gives-once, then-gives}
 use Rattle.headers.specs.Block.{Header, Proper}
 use Rattle.headers.specs.Lookup.{valueIn}
 use Rattle.headers.proofs.Claims.{headers-proper}
-use Rattle.mounts.specs.Mounts.{Mount}
-use Rattle.mounts.specs.Claims.{Each, none-left, one-more}
-use Rattle.mounts.proofs.Claims.{mounts-are-headers}
 use Rattle.lent.specs.Settings.{Auth, Settings, filled, orIn, sought, isPort, portIn, authOf, settingsOf}
 use Rattle.lent.specs.Claims.{ProperAuth, neither, both, ProperSettings, LentIsProper}
 use Rattle.lent.proofs.Links.{links}
@@ -94,18 +91,9 @@ module _ (facts site : List Header) (pf : All Proper facts) (ps : All Proper sit
       (auth-proper (valueIn (bytes "AUTH_TYPE") facts) (valueIn (bytes "REMOTE_USER") facts) (f .it) (value-plain (bytes "AUTH_TYPE") facts pf) (value-plain (bytes "REMOTE_USER") facts pf) (f .first))
       (gives-once _ s (f .next))
 
--- Mounts.
-
-mounts-proper : {block : List ℕ} {ms : List Mount} {hs : List Header} → Each block ms hs → All (λ m. NoNul (m .name)) ms
-mounts-proper none-left = no-more
-mounts-proper (one-more m ms) = m .no-nul & mounts-proper ms
-
 pub lent-is-proper : LentIsProper
 lent-is-proper facts site mounts l e =
     let k = links facts site mounts l e in
     let f = headers-proper facts (k .fs) (k .facts-hold .headers) in
     let s = headers-proper site (k .ss) (k .site-holds .headers) in
-    record {
-      settings = settings-proper (k .fs) (k .ss) f s (l .settings) (k .settings);
-      mounts = mounts-proper (mounts-are-headers mounts (l .mounts) (k .mounts-are) .each);
-    }
+    settings-proper (k .fs) (k .ss) f s (l .settings) (k .settings)

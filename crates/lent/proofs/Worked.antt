@@ -16,6 +16,7 @@ use Rattle.octets.specs.Parts.{parted}
 use Rattle.headers.specs.Block.{Header, paired, printed}
 use Rattle.headers.specs.Lookup.{valueIn}
 use Rattle.mounts.specs.Blocks.{blockOf}
+use Rattle.mounts.specs.Value.{valueOf}
 use Rattle.mounts.specs.Mounts.{Mount, begins, ends, mountsFrom, mountsOf}
 use Rattle.lent.specs.Settings.{Settings, settingsOf}
 use Rattle.lent.specs.Lent.{Lent, lentOf}
@@ -39,16 +40,16 @@ plain =
       serverSoftware = bytes "gate/1";
     }
 
--- of the block `/jobs|p|`
+-- of the block `/jobs|p;9|`
 abbrev pub jobs : Mount
-jobs = record { name = bytes "/jobs"; poolStart = 6; poolLength = 1 }
+jobs = record { name = bytes "/jobs"; poolStart = 6; poolLength = 1; limit = 9 }
 
 unfoldable pub cases : List Case
 cases =
     record {
       facts = "REMOTE_ADDR|10.0.0.9|SERVER_PORT|80|";
       site = "SERVER_NAME|q.example|SERVER_PORT|81|SERVER_SOFTWARE|gate/1|AUTH_TYPE||";
-      mounts = "/jobs|p|";
+      mounts = "/jobs|p;9|";
       answer = gives (record { settings = plain; mounts = jobs ∷ [] });
     }
     -- no mounts at all is no breach, and unknown names are ignored
@@ -103,11 +104,11 @@ breaches =
     ∷ []
 
 pub all-right : map (λ c. lentOf (barred (c .facts)) (barred (c .site)) (barred (c .mounts))) cases ≡ map (λ c. c .answer) cases
-unfolding cases lentOf mountsOf mountsFrom settingsOf begins ends valueIn parted paired different isIn sameBytes numberFrom isDigit
+unfolding cases lentOf mountsOf mountsFrom valueOf settingsOf begins ends valueIn parted paired different isIn sameBytes numberFrom isDigit
 all-right = refl
 
 pub all-breaches : map (λ c. lentOf (barred (c .facts)) (barred (c .site)) (barred (c .mounts))) breaches ≡ map (λ c. refused 20) breaches
-unfolding breaches lentOf mountsOf mountsFrom settingsOf begins ends valueIn parted paired different isIn sameBytes numberFrom isDigit
+unfolding breaches lentOf mountsOf mountsFrom valueOf settingsOf begins ends valueIn parted paired different isIn sameBytes numberFrom isDigit
 all-breaches = refl
 
 -- The limit, on blocks that are too long to write out.

@@ -6,7 +6,7 @@ use mathlib.Core.List.{List}
 use mathlib.Core.Option.{Option, none, some}
 use lib.ListN.{length}
 use Rattle.octets.specs.Outcome.{refused, gives}
-use Rattle.octets.specs.Lists.{All, NoNul}
+use Rattle.octets.specs.Lists.{NoNul}
 use Rattle.mounts.specs.Mounts.{Mount, mountsOf}
 use Rattle.lent.specs.Settings.{Auth, Settings}
 use Rattle.lent.specs.Lent.{Lent, lentOf}
@@ -15,7 +15,7 @@ use Rattle.lent.specs.Check.{LentFound}
 use Rattle.lent.specs.declared.places.SettingPlaces.{SettingPlaces}
 use Rattle.lent.specs.declared.check.Checked.the-variants.{Lent as CheckedLent, Refused}
 
--- what the form of the blocks gives, "name, NUL, value, NUL": no NUL in a value or a name
+-- what the form of the blocks gives, "name, NUL, value, NUL": no NUL in a value
 pub data ProperAuth : Option Auth → Type 0 where
   neither : ProperAuth none
   both : {a : Auth} → NoNul (a .authType) → NoNul (a .remoteUser) → ProperAuth (some a)
@@ -27,12 +27,8 @@ pub record ProperSettings (s : Settings) : Type 0 where
   pub serverPort : NoNul (s .serverPort)
   pub serverSoftware : NoNul (s .serverSoftware)
 
-pub record ProperLent (l : Lent) : Type 0 where
-  pub settings : ProperSettings (l .settings)
-  pub mounts : All (λ m. NoNul (m .name)) (l .mounts)
-
 abbrev pub LentIsProper : Type 0
-LentIsProper = (facts site mounts : List ℕ) (l : Lent) → lentOf facts site mounts ≡ gives l → ProperLent l
+LentIsProper = (facts site mounts : List ℕ) (l : Lent) → lentOf facts site mounts ≡ gives l → ProperSettings (l .settings)
 
 -- how many bytes the variables take that the settings give, with their names and NULs: AUTH_TYPE and REMOTE_USER where they are there
 abbrev pub authSize : Option Auth → ℕ

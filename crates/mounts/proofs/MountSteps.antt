@@ -14,7 +14,7 @@ use Rattle.octets.specs.Outcome.{Outcome, refused, gives, then, need, given}
 use Rattle.octets.specs.Lists.{different}
 use Rattle.octets.specs.Parts.{parted}
 use Rattle.octets.proofs.Bools.{and-left, and-right}
-use Rattle.octets.proofs.Lists.{part-first, part-last, nil-empty, nil-filled}
+use Rattle.octets.proofs.Lists.{part-first, part-last}
 use Rattle.octets.proofs.Outcomes.{given-gives, gives-once, then-gives}
 use Rattle.headers.specs.Block.{Header, names, headersOf, paired, parsed, wellFormed, headerIn, headerEnds, headerOutcome, HeaderFound}
 use Rattle.headers.specs.Claims.{Headed}
@@ -22,6 +22,7 @@ use Rattle.headers.specs.declared.block.HeaderPlace.{HeaderPlace}
 use Rattle.headers.specs.declared.block.HeaderPlace.the-variants.{At, Refused}
 use Rattle.headers.proofs.Claims.{well-formed-headed, header-parses}
 use Rattle.mounts.specs.Blocks.{blockOf, isGood, manyFor, lacksRoom, BlockGood}
+use Rattle.mounts.specs.Value.{Value, valueOf}
 use Rattle.mounts.specs.Mounts.{Mount, begins, ends, mountAt, mountsFrom, mountsOf}
 use Rattle.mounts.proofs.BlockSteps.{blocks-hold}
 
@@ -73,11 +74,11 @@ module _ (b : List ℕ) (i n v : ℕ) (o : (i < n) × (n < v) × (v < length b))
       last-is : ends 47 (headerIn b i n v .name) ≡ false
       last-is = name-last ∙ ne-eqb (getD b (n - 1) 0) 47 l
 
-      pub no-pool : n + 1 ≡ v → isMount ≡ false
-      no-pool h = rw (first-is, last-is, nil-empty (headerIn b i n v .value) (omega (arith, value-length)))
+      pub bad-value : valueOf (headerIn b i n v .value) ≡ refused 20 → isMount ≡ false
+      bad-value e = rw (first-is, last-is, e)
 
-      pub is-mount : (n + 1 ≡ v → ⊥) → isMount ≡ true
-      is-mount h = rw (first-is, last-is, nil-filled (headerIn b i n v .value) (omega (arith, value-length)))
+      pub is-mount : (w : Value) → valueOf (headerIn b i n v .value) ≡ gives w → isMount ≡ true
+      is-mount w e = rw (first-is, last-is, e)
 
 -- the header that was found at i
 pub found-at : (b : List ℕ) (i : ℕ) (p q : HeaderPlace) → i < length b → headerOutcome p ≡ headerEnds b i → p ≡ q → HeaderFound b i (headerOutcome q)

@@ -8,26 +8,46 @@ use native.Mathlib.Nat.{add-assoc}
 use native.Mathlib.Omega.{arith}
 use lib.Dec.{leb}
 use lib.ListN.{length, take, drop, length-append, length-drop}
-use lib.Seq.{drop-drop, drop-append-add, take-append-seam}
+use lib.Seq.{drop-drop, drop-append-add, take-append-le}
 use Rattle.octets.specs.Outcome.{gives}
 use Rattle.octets.specs.Lists.{All, _&_, isNil}
+use Rattle.octets.specs.Scan.{run, other}
+use Rattle.octets.proofs.Scans.{run-le}
 use Rattle.octets.proofs.Outcomes.{need-gives, gives-once, then-gives}
 use Rattle.headers.specs.Block.{Header, Proper, printed}
 use Rattle.headers.proofs.Claims.{headers-proper, printed-parsed}
 use Rattle.mounts.specs.Blocks.{blockOf}
+use Rattle.mounts.specs.Value.{poolOf, limitOf, Value, valueOf}
 use Rattle.mounts.specs.Mounts.{Mount, begins, ends, mountAt, mountsFrom, mountsOf}
 use Rattle.mounts.specs.Claims.{MountOf, Each, none-left, one-more, MountsAreHeaders}
 use Rattle.mounts.proofs.BlockSteps.{blocks-hold}
+use Rattle.mounts.proofs.Values.{pool-is, pool-length, limit-small}
 
 -- a mount by its header, whose value stands at i
-pub mount-is :
-    (i : ℕ) (h : Header) (m : Mount) → mountAt i h ≡ gives m
-    → record { name = h .name; poolStart = i; poolLength = length (h .value) } ≡ m
-mount-is i h m e =
+pub record Made (i : ℕ) (h : Header) (m : Mount) : Type 0 where
+  pub value : Value
+  pub read : valueOf (h .value) ≡ gives value
+  pub is : record { name = h .name; poolStart = i; poolLength = value .poolLength; limit = value .limit } ≡ m
+
+pub mount-made : (i : ℕ) (h : Header) (m : Mount) → mountAt i h ≡ gives m → Made i h m
+mount-made i h m e =
     let a = need-gives (begins (47 ∷ []) (h .name)) 20 _ m e in
     let b = need-gives (not (ends 47 (h .name))) 20 _ m (a .1) in
-    let c = need-gives (not (isNil (h .value))) 20 _ m (b .1) in
-    gives-once _ m (c .1)
+    let c = then-gives (valueOf (h .value)) _ m (b .1) in
+    record { value = c .it; read = c .first; is = gives-once _ m (c .next) }
+
+-- the two parts of a value
+record ValueMade (v : List ℕ) (w : Value) : Type 0 where
+  pool : w .poolLength ≡ length (poolOf v)
+  limit : limitOf v ≡ gives (w .limit)
+
+value-made : (v : List ℕ) (w : Value) → valueOf v ≡ gives w → ValueMade v w
+unfolding valueOf
+value-made v w e =
+    let a = need-gives (not (isNil (poolOf v))) 20 _ w e in
+    let b = then-gives (limitOf v) _ w (a .1) in
+    let z : record { poolLength = length (poolOf v); limit = b .it } ≡ w = gives-once _ w (b .next) in
+    record { pool = sym (ap (λ (x : Value). x .poolLength) z); limit = b .first ∙ ap (λ (x : Value). gives (x .limit)) z }
 
 -- headers that are printed in b from i on
 module _ (b : List ℕ) where
@@ -36,12 +56,19 @@ module _ (b : List ℕ) where
 
   mount-of : (i : ℕ) (h : Header) (m : Mount) (rest : List ℕ) → Proper h → drop i b ≡ h .value ++ 0 ∷ rest → mountAt i h ≡ gives m → MountOf b m h
   mount-of i h m rest p e a =
-      subst (λ (x : Mount). MountOf b x h) (mount-is i h m a)
+      let d = mount-made i h m a in
+      let w = value-made (h .value) (d .value) (d .read) in
+      let n : length (poolOf (h .value)) ≤ length (h .value) = omega (arith, pool-length (h .value), run-le (other 59) (h .value)) in
+      subst (λ (x : Mount). MountOf b x h) (d .is)
       (record {
         name = refl;
         no-nul = p .name-bytes;
-        inside = omega (arith, ap length e, length-drop i b, length-append (h .value) (0 ∷ rest));
-        pool = rw e (take-append-seam (h .value) (0 ∷ rest));
+        inside = omega (arith, w .pool, ap length e, length-drop i b, length-append (h .value) (0 ∷ rest));
+        pool =
+            rw (w .pool, e, pool-length (h .value))
+            (take-append-le (run (other 59) (h .value)) (h .value) (0 ∷ rest) (run-le (other 59) (h .value)) ∙ sym (pool-is (h .value)));
+        limit = w .limit;
+        small = limit-small (h .value) (d .value .limit) (w .limit);
       })
 
   each-at : (i : ℕ) (hs : List Header) (ms : List Mount) → All Proper hs → drop i b ≡ printed hs → mountsFrom i hs ≡ gives ms → Each b ms hs

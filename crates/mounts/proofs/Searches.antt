@@ -8,8 +8,7 @@ use mathlib.Core.List.{List, [], _∷_}
 use mathlib.Core.Option.{Option, none, some}
 use native.Mathlib.Omega.{arith}
 use lib.Dec.{leb}
-use lib.ListN.{length, take, length-take, length-drop}
-use lib.Seq.{length-take-le}
+use lib.ListN.{length, take, length-take}
 use Rattle.octets.specs.Outcome.{Outcome, refused, gives, then, given}
 use Rattle.octets.specs.Compare.{sameBytes}
 use Rattle.octets.proofs.Compares.{same-true}
@@ -20,11 +19,11 @@ use Rattle.headers.specs.declared.lookup.Place.{Place}
 use Rattle.headers.proofs.Claims.{well-formed-headed, lookup-finds-value, places-inside}
 use Rattle.mounts.specs.Blocks.{blockOf, isGood}
 use Rattle.mounts.specs.Mounts.{Mount, mountAt, mountsFrom, mountsOf}
-use Rattle.mounts.specs.Search.{shortened, mountNamed, tried, placeOf, searchOf, mountOutcome}
-use Rattle.mounts.specs.declared.search.Mount.the-variants.{Found, Refused}
+use Rattle.mounts.specs.Search.{shortened, mountNamed, tried, placeOf, placeBy, searchOf, mountOutcome}
+use Rattle.mounts.specs.declared.search.Mount.the-variants.{Refused}
 use Rattle.mounts.proofs.BlockSteps.{blocks-hold}
 use Rattle.mounts.proofs.Mounts.{shortened-shorter, tried-here, tried-last, tried-on}
-use Rattle.mounts.proofs.Pools.{mount-is}
+use Rattle.mounts.proofs.Pools.{mount-made}
 
 -- the path without its last segment is a front of the path
 pub front-shorter : (path : List ℕ) (k : ℕ) → shortened path ≡ some (take k path) → k < length path
@@ -60,7 +59,7 @@ named name i (h ∷ hs) ms e =
     let j : ℕ = i + length (h .name) + 1 in
     let f = then-gives (mountAt j h) _ ms e in
     let g = then-gives (mountsFrom (j + length (h .value) + 1) hs) _ ms (f .next) in
-    let n : h .name ≡ f .it .name = ap (λ (x : Mount). x .name) (mount-is j h (f .it) (f .first)) in
+    let n : h .name ≡ f .it .name = ap (λ (x : Mount). x .name) (mount-made j h (f .it) (f .first) .is) in
     subst (NamedBy name (placeIn name i (h ∷ hs)) (valueIn name (h ∷ hs))) (gives-once _ ms (g .next))
     (by (f .it) (g .it) n (f .first) (sameBytes (h .name) name) refl (named name (j + length (h .value) + 1) hs (g .it) (g .first)))
   where
@@ -123,12 +122,11 @@ module _ (mounts path : List ℕ) (good : isGood (mountsOf mounts) ≡ true) whe
   searched : (o : Option Mount) → tried (h .ms) path ≡ o → searchOf mounts path ≡ then (given o 19) (λ m. gives (placeOf m))
   searched o e = rw (h .are, e)
 
-  pub path-is-mount : (p : Part) → lookupOf mounts path ≡ gives (some p) → mountOutcome (Found (length path) (p .start) (p .len)) ≡ searchOf mounts path
+  pub path-is-mount : (p : Part) → lookupOf mounts path ≡ gives (some p) → placeBy (length path) (p .start) (partIn mounts p) ≡ searchOf mounts path
   path-is-mount p e =
       let n = looked (some p) e in
-      let l : length (partIn mounts p) ≡ p .len = simp (length-take, length-drop) (omega (arith, places-inside .of-one mounts path p e)) in
-      let z = mount-is (p .start) (record { name = path; value = partIn mounts p }) (n .m) (n .made) in
-      sym (searched (some (n .m)) (tried-here (h .ms) path (n .m) (n .is)) ∙ ap (λ (m : Mount). gives (placeOf m)) (sym z) ∙ rw l)
+      let d = mount-made (p .start) (record { name = path; value = partIn mounts p }) (n .m) (n .made) in
+      rw (d .read) (ap (λ (m : Mount). gives (placeOf m)) (d .is)) ∙ sym (searched (some (n .m)) (tried-here (h .ms) path (n .m) (n .is)))
 
   pub no-mount : lookupOf mounts path ≡ gives none → shortened path ≡ none → mountOutcome (Refused 19) ≡ searchOf mounts path
   no-mount e s = sym (searched none (tried-last (h .ms) path (looked none e) s))

@@ -10,6 +10,7 @@ use Rattle.octets.specs.Outcome.{refused, gives}
 use Rattle.octets.specs.Lists.{All, NoNul, different}
 use Rattle.headers.specs.Block.{Header, names, parsed}
 use Rattle.mounts.specs.Blocks.{blockOf, BlockGood, lacksRoom, storedOf}
+use Rattle.mounts.specs.Value.{poolOf, limitOf}
 use Rattle.mounts.specs.Mounts.{Mount, mountsOf, fits, mountOf, routeOf}
 use Rattle.mounts.specs.Search.{tried}
 
@@ -43,12 +44,15 @@ pub record BlocksTold : Type 0 where
 abbrev pub MountsNumber : Type 0
 MountsNumber = (block : List ℕ) (n : ℕ) → mountsOf block ≡ refused n → n ≡ 20
 
--- a mount is what a header says, and the bytes at its pool's place in the block are the pool
+-- a mount is what a header says: its pool is the part of the value before `;`, and the bytes at the pool's place in the block are the pool;
+-- its limit is the value's, "0 to 1,048,576"
 pub record MountOf (block : List ℕ) (m : Mount) (h : Header) : Type 0 where
   pub name : m .name ≡ h .name
   pub no-nul : NoNul (m .name)
   pub inside : m .poolStart + m .poolLength ≤ length block
-  pub pool : take (m .poolLength) (drop (m .poolStart) block) ≡ h .value
+  pub pool : take (m .poolLength) (drop (m .poolStart) block) ≡ poolOf (h .value)
+  pub limit : limitOf (h .value) ≡ gives (m .limit)
+  pub small : m .limit ≤ 1048576
 
 -- .. one by one
 pub data Each (block : List ℕ) : List Mount → List Header → Type 0 where

@@ -1,4 +1,5 @@
 pub mod Blocks
+pub mod Value
 pub mod Mounts
 pub mod Search
 pub mod Claims

@@ -8,9 +8,9 @@ use lib.Dec.{eqb, leb}
 use lib.ListN.{length, drop}
 use Rattle.octets.specs.Outcome.{Outcome, gives, then, need, given}
 use Rattle.octets.specs.Compare.{sameBytes}
-use Rattle.octets.specs.Lists.{isNil}
 use Rattle.headers.specs.Block.{Header}
 use Rattle.mounts.specs.Blocks.{blockOf}
+use Rattle.mounts.specs.Value.{valueOf}
 
 -- s begins with the bytes p
 unfoldable pub begins : List ℕ → List ℕ → Bool
@@ -24,20 +24,20 @@ ends x [] = false
 ends x (b ∷ []) = eqb b x
 ends x (b ∷ (c ∷ s)) = ends x (c ∷ s)
 
--- a path under which requests go to a pool: its name, and where its value, the pool, stands in the mounts block
+-- a path under which requests go to a pool: its name, where its pool stands in the mounts block, and how many bytes a body may have
 pub record Mount : Type 0 where
   pub name : List ℕ
   pub poolStart : ℕ
   pub poolLength : ℕ
+  pub limit : ℕ
 
--- the mount of a header whose value stands at i: "each name begins with `/` and does not end with `/`; each value, the pool, is not empty".
--- `/` is 47
+-- the mount of a header whose value stands at i: "each name begins with `/` and does not end with `/`". `/` is 47
 abbrev pub mountAt : ℕ → Header → Outcome Mount
 mountAt i h =
     need (begins (47 ∷ []) (h .name)) 20
     (need (not (ends 47 (h .name))) 20
-    (need (not (isNil (h .value))) 20
-    (gives (record { name = h .name; poolStart = i; poolLength = length (h .value) }))))
+    (then (valueOf (h .value)) (λ v.
+    gives (record { name = h .name; poolStart = i; poolLength = v .poolLength; limit = v .limit }))))
 
 -- those of headers that stand in a block from i on, each "name, NUL, value, NUL"
 unfoldable pub mountsFrom : ℕ → List Header → Outcome (List Mount)

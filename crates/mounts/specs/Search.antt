@@ -9,6 +9,7 @@ use lib.ListN.{length, take}
 use Rattle.octets.specs.Outcome.{Outcome, refused, gives, then, given}
 use Rattle.octets.specs.Compare.{sameBytes}
 use Rattle.octets.specs.Scan.{count}
+use Rattle.mounts.specs.Value.{valueOf}
 use Rattle.mounts.specs.Mounts.{Mount, mountsOf}
 use Rattle.mounts.specs.declared.search.Slash.{Slash}
 use Rattle.mounts.specs.declared.search.Slash.the-variants.{At, Absent}
@@ -49,14 +50,19 @@ triedIn (suc n) ms path = orShorter (mountNamed path ms) (triedIn n ms) (shorten
 abbrev pub tried : List Mount → List ℕ → Option Mount
 tried ms path = triedIn (suc (count 47 path)) ms path
 
--- a mount by numbers: the length of its name, with which the path begins, and its pool's place
+-- a mount by numbers: the length of its name, with which the path begins, its pool's place and its limit
 pub record MountPlace : Type 0 where
   pub nameLength : ℕ
   pub poolStart : ℕ
   pub poolLength : ℕ
+  pub limit : ℕ
 
 abbrev pub placeOf : Mount → MountPlace
-placeOf m = record { nameLength = length (m .name); poolStart = m .poolStart; poolLength = m .poolLength }
+placeOf m = record { nameLength = length (m .name); poolStart = m .poolStart; poolLength = m .poolLength; limit = m .limit }
+
+-- .. whose name has n bytes, and whose value v stands at i
+abbrev pub placeBy : (n i : ℕ) → List ℕ → Outcome MountPlace
+placeBy n i v = then (valueOf v) (λ w. gives (record { nameLength = n; poolStart = i; poolLength = w .poolLength; limit = w .limit }))
 
 -- of a mounts block; 19: "no mount fits"
 abbrev pub searchOf : List ℕ → List ℕ → Outcome MountPlace
@@ -64,5 +70,5 @@ searchOf mounts path = then (mountsOf mounts) (λ ms. then (given (tried ms path
 
 -- what the code's answer says
 abbrev pub mountOutcome : Answer.Mount → Outcome MountPlace
-mountOutcome (Found n s l) = gives (record { nameLength = n; poolStart = s; poolLength = l })
+mountOutcome (Found n s l most) = gives (record { nameLength = n; poolStart = s; poolLength = l; limit = most })
 mountOutcome (Refused n) = refused n

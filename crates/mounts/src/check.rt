@@ -8,6 +8,8 @@ ghost use Rattle.mounts.specs.Mounts.{mountsFrom, mountsOf};
 use crate::blocks::Named;
 use crate::blocks::Storing;
 use crate::blocks::store_block;
+use crate::value::Value;
+use crate::value::read_value;
 use headers::block::HeaderPlace;
 use headers::block::header_at;
 
@@ -33,9 +35,10 @@ fn all_mounts(block: &[u8]) -> bool
         if block[name_end - 1] == b'/' {
             return false;
         }
-        if name_end + 1 == value_end {
+        let v = read_value(&block[name_end + 1..value_end]);
+        let Value::Pool { len: _, limit: _ } = v else {
             return false;
-        }
+        };
         i = value_end + 1;
     }
     true

@@ -1,10 +1,14 @@
-// The mount that a path goes to. A mount is a header of the mounts block: its name, and the pool that its value names.
+// The mount that a path goes to. A mount is a header of the mounts block: its name, and the pool and the limit that its value names.
 ghost use mathlib.Core.Path.{_≡_};
 ghost use mathlib.Core.Bool.{true};
+ghost use Prim.Native.Nat.{_+_, _≤_};
+ghost use lib.ListN.{length, take, drop};
 ghost use Rattle.octets.specs.Outcome.{refusalOf};
 ghost use Rattle.mounts.specs.Blocks.{isGood};
 ghost use Rattle.mounts.specs.Mounts.{mountsOf};
-ghost use Rattle.mounts.specs.Search.{slashPart, shortened, mountOutcome, searchOf};
+ghost use Rattle.mounts.specs.Search.{slashPart, shortened, mountOutcome, placeBy, searchOf};
+use crate::value::Value;
+use crate::value::read_value;
 use headers::lookup::Place;
 use headers::lookup::seek;
 
@@ -28,11 +32,12 @@ fn last_slash(path: &[u8]) -> Slash
 }
 
 pub enum Mount {
-    // How long the mount's name is, with which the path begins, and where the pool stands in the mounts.
+    // How long the mount's name is, with which the path begins, where the pool stands in the mounts, and how many bytes a body may have.
     Found {
         name_len: usize,
         pool_start: usize,
         pool_len: usize,
+        limit: u64,
     },
     Refused(u8),
 }
@@ -47,9 +52,28 @@ impl Mount {
                 name_len: _,
                 pool_start: _,
                 pool_len: _,
+                limit: _,
             } => 0,
             Mount::Refused(n) => n,
         }
+    }
+}
+
+// The mount whose name has name_len bytes, by its value, which stands at a place of the mounts.
+fn found(mounts: &[u8], name_len: usize, start: usize, value_len: usize) -> Mount
+    requires { ⌜ start + «value_len» ≤ length (now mounts) ⌝ }
+    ensures { λ r. ⌜ mountOutcome r ≡ placeBy «name_len» start (take «value_len» (drop start (now (mounts .entry)))) ⌝ }
+{
+    let v = read_value(&mounts[start..start + value_len]);
+    let Value::Pool { len, limit } = v else {
+        // 20: an empty pool, a second `;` or a bad limit. Mounts that were checked have none.
+        return Mount::Refused(20);
+    };
+    Mount::Found {
+        name_len,
+        pool_start: start,
+        pool_len: len,
+        limit,
     }
 }
 
@@ -67,9 +91,5 @@ pub fn search(mounts: &[u8], path: &[u8]) -> Mount
         };
         return search(mounts, &path[..k]);
     };
-    Mount::Found {
-        name_len: path.len(),
-        pool_start: start,
-        pool_len: len,
-    }
+    found(mounts, path.len(), start, len)
 }

@@ -1,6 +1,6 @@
 -- `gateway::step::step_by` meets its contract.
 -- Assumes nothing.
-use Prim.Native.Nat.{ℕ, min, _-_, _≤_}
+use Prim.Native.Nat.{ℕ, min, _+_, _-_, _≤_}
 use mathlib.Core.Path.{_≡_, refl, sym, ap, subst, _∙_}
 use mathlib.Core.List.{List, _++_}
 use native.Mathlib.Omega.{arith}
@@ -8,7 +8,6 @@ use lib.ListN.{length, take, drop, length-take, length-drop}
 use lib.Seq.{length-take-le}
 use borrow.Author.Needs.{needs}
 use Rattle.octets.specs.Outcome.{Outcome, refused, gives}
-use Rattle.octets.proofs.Lists.{part}
 use Rattle.headers.specs.Block.{printed}
 use Rattle.scgi.specs.Grammar.{netstring}
 use Rattle.http.specs.Head.{headOf, headOutcome}
@@ -66,7 +65,7 @@ abbrev start₄ : tie.After-known-told4 → tie.Start
 start₄ c = start₃ (read₄ c)
 
 abbrev mount₅ : tie.After-known-told5 → tie.After-known-told4
-mount₅ c = c .before .before .before .before
+mount₅ c = c .before .before .before .before .before
 
 abbrev start₅ : tie.After-known-told5 → tie.Start
 start₅ c = start₄ (mount₅ c)
@@ -100,11 +99,16 @@ path c = c .before .before .before .before .before .before .read-request .last .
 abbrev request : tie.After-known-told3 → Request
 request c = requestIn (head c) (places c) (path c) (line c) (fields c)
 
-abbrev chosen : tie.After-known-told4 → Mount
-chosen c = mountBy (request (read₄ c) .path) (c .before .m .given .0 .0) (c .before .m .given .0 .1 .0) (c .before .m .given .0 .1 .1 .0)
+-- the mount's name by its length, its pool by start and length, and its limit
+abbrev limit : tie.After-known-told4 → ℕ
+limit c = c .before .m .given .0 .1 .1 .1 .0
 
-abbrev used : tie.After-known-told5 → ℕ
-used c = c .before .b .given .0 .0
+abbrev chosen : tie.After-known-told4 → Mount
+chosen c = mountBy (request (read₄ c) .path) (c .before .m .given .0 .0) (c .before .m .given .0 .1 .0) (c .before .m .given .0 .1 .1 .0) (limit c)
+
+-- the body's length
+abbrev size : tie.After-known-told5 → ℕ
+size c = c .before .b .given .0 .0
 
 -- What is known there.
 
@@ -135,11 +139,14 @@ same-path c = search needs
 mount :
     (c : tie.After-known-told4)
     → (let l = lent (lent₂ (head₃ (read₄ c))) in
-    Won (start₄ c .args .mounts .now) (request (read₄ c) .path) (l .ms) (l .mounts-are) (c .before .m .given .0 .0) (c .before .m .given .0 .1 .0) (c .before .m .given .0 .1 .1 .0))
-mount c = won _ _ _ _ _ _ _ (ap mountOutcome (sym (c .before .m .given .1)) ∙ c .before .before .before .search .ensures)
+    Won (start₄ c .args .mounts .now) (request (read₄ c) .path) (l .ms) (l .mounts-are) (c .before .m .given .0 .0) (c .before .m .given .0 .1 .0) (c .before .m .given .0 .1 .1 .0) (limit c))
+mount c = won _ _ _ _ _ _ _ _ (ap mountOutcome (sym (c .before .m .given .1)) ∙ c .before .before .before .search .ensures)
 
-ended : (c : tie.After-known-told5) → BodyThere (http (start₅ c)) (headLength (head₃ (read₄ (mount₅ c)))) (request (read₄ (mount₅ c)) .bodyLength) (used c)
-ended c = body-there _ _ _ _ (ap bodyOutcome (sym (c .before .b .given .1)) ∙ c .before .before .before .body-end .ensures)
+sized :
+    (c : tie.After-known-told5)
+    → (let r = read₄ (mount₅ c) in
+    BodyThere (limit (mount₅ c)) (request r .bodyLength) (http (start₅ c)) (headLength (head₃ r)) (size c))
+sized c = body-there _ _ _ _ _ (ap bodyOutcome (sym (c .before .b .given .1)) ∙ c .before .before .before .read-body .ensures)
 
 -- What the step gives at each place.
 
@@ -152,21 +159,17 @@ refuses s k e = left-alone (answer s) (s .args .out .now) k e
 -- What is written.
 
 abbrev body : tie.After-known-told5 → List ℕ
-body c = take (request (read₄ (mount₅ c)) .bodyLength) (drop (headLength (head₃ (read₄ (mount₅ c)))) (http (start₅ c)))
+body c =
+    let h = headLength (head₃ (read₄ (mount₅ c))) in
+    take (size c) (take (length (http (start₅ c)) - h) (drop h (http (start₅ c))))
 
 abbrev sources : tie.After-known-told5 → Sources
 sources c =
     let r = read₄ (mount₅ c) in
     record { settings = settings (lent₂ (head₃ r)); line = line r; fields = fields r; name = mount₅ c .before .m .given .0 .0 }
 
--- the bytes between the head and the end are the body
-parted : (c : tie.After-known-told5) → (let h = headLength (head₃ (read₄ (mount₅ c))) in take (used c - h) (drop h (http (start₅ c))) ≡ body c)
-parted c =
-    let h = headLength (head₃ (read₄ (mount₅ c))) in
-    ap (λ (u : ℕ). take (u - h) (drop h (http (start₅ c)))) (ended c .ends) ∙ part (http (start₅ c)) h (request (read₄ (mount₅ c)) .bodyLength)
-
 small : (c : tie.After-known-told5) → length (body c) ≤ 1048576
-small c = simp length-take (omega (arith, ended c .limit))
+small c = simp length-take (omega (arith, sized c .limit, mount (mount₅ c) .small))
 
 -- the variables of the step
 abbrev printing : tie.After-known-told5 → List ℕ
@@ -183,16 +186,14 @@ block c =
 is-block : (c : tie.After-known-told5) → block c ≡ printing c
 is-block c =
     let m = chosen (mount₅ c) in
-    block-is _ _ _ _ _ (sources c) (body c) (m .poolStart) (m .poolLength) (mount (mount₅ c) .inside) (length (body c)) refl
+    block-is _ _ _ _ _ (sources c) (body c) (m .poolStart) (m .poolLength) (m .limit) (mount (mount₅ c) .inside) (length (body c)) refl
 
--- .. fit, for a body b
-abbrev FitsWith : tie.After-known-told5 → List ℕ → Type 0
-FitsWith c b =
-    let a = start₅ c .args in
+-- .. fit
+fits :
+    (c : tie.After-known-told5)
+    → (let a = start₅ c .args in
     let r = read₄ (mount₅ c) in
-    RequestFits (a .facts .now) (a .site .now) (head r) (places r) (path r) b (sources c)
-
-fits : (c : tie.After-known-told5) → FitsWith c (body c)
+    RequestFits (a .facts .now) (a .site .now) (head r) (places r) (path r) (body c) (sources c))
 fits c =
     let m = mount₅ c in
     let r = read₄ m in
@@ -319,8 +320,17 @@ returns-4 c =
     rw (c .number4 .ensures, e)
     (refuses (start₃ r) _ (step-mount _ _ _ _ _ (lending l) (lent l .lent) _ (headed (head₃ r)) (request r) (sym (read r .answer)) _ w))
 
-body-end-requires : tie.Need-body-end-requires
-body-end-requires c κs = within (head₃ (read₄ c)) .inside
+sub-after : tie.Need-sub-after
+sub-after c = omega (arith, within (head₃ (read₄ c)) .inside)
+
+part-after-start : tie.Need-part-after-start
+part-after-start c = omega (arith, within (head₃ (read₄ c)) .inside)
+
+part-after-end : tie.Need-part-after-end
+part-after-end c = search needs
+
+read-body-requires : tie.Need-read-body-requires
+read-body-requires c κs = search needs
 
 enum-known-b : tie.Need-enum-known-b
 enum-known-b c = search needs
@@ -337,35 +347,32 @@ same-length-3 c = search needs
 returns-5 : tie.Need-returns-5
 returns-5 c =
     let e = c .before .enum-told5 .given .1 in
-    let m = c .before .before .before .before in
+    let m = c .before .before .before .before .before in
     let r = read₄ m in
     let l = lent₂ (head₃ r) in
-    let w = body-refused _ _ _ _ (ap bodyOutcome (sym e) ∙ c .before .before .before .body-end .ensures) in
+    let w = body-refused _ _ (http (start₄ m)) (headLength (head₃ r)) _ (ap bodyOutcome (sym e) ∙ c .before .before .before .read-body .ensures) in
     rw (c .number5 .ensures, e)
     (refuses (start₄ m) _ (step-body _ _ _ _ _ (lending l) (lent l .lent) _ (headed (head₃ r)) (request r) (sym (read r .answer)) _ (mount m .wins) _ w))
-
-sub-body : tie.Need-sub-body
-sub-body c = omega (arith, ended c .ends)
-
-part-body-start : tie.Need-part-body-start
-part-body-start c = omega (arith, ended c .ends)
-
-part-body-end : tie.Need-part-body-end
-part-body-end c = omega (arith, ended c .ends, ended c .inside)
 
 slice-aggregate-write-request : tie.Need-slice-aggregate-write-request
 slice-aggregate-write-request c = search needs
 
+slice-aggregate-write-request-2 : tie.Need-slice-aggregate-write-request-2
+slice-aggregate-write-request-2 c = sym (length-take-le _ _ (sized (c .before .before .before) .inside))
+
 write-request-requires : tie.Need-write-request-requires
-write-request-requires c κs =
-    let k = c .before .before .before .before in
-    subst (FitsWith k) (sym (parted k)) (fits k)
+write-request-requires c κs = fits (c .before .before .before .before)
+
+add-answered : tie.Need-add-answered
+add-answered c =
+    let k = c .before .before .before .before .before .before .before in
+    omega (arith, within (head₃ (read₄ (mount₅ k))) .limit, sized k .limit, mount (mount₅ k) .small)
 
 answered-requires : tie.Need-answered-requires
 answered-requires c κs = search needs
 
 same-length-4 : tie.Need-same-length-4
-same-length-4 c = same-path (c .before .before .before .before .before .before .before .before .before .before .before .before .before .before .before .before .before)
+same-length-4 c = same-path (c .before .before .before .before .before .before .before .before .before .before .before .before .before .before .before .before .before .before)
 
 same-length-5 : tie.Need-same-length-5
 same-length-5 c = search needs
@@ -376,23 +383,25 @@ made :
     → (let k = c .before .before .before .before .before .before .before .before in
     let m = chosen (mount₅ k) in
     let w = c .before .before .before .write-request in
-    Stepped (answer (start₅ k)) (start₅ k .args .out .now) (w .last .1 .1 .1 .1 .1 .1 .1 .0) (steppingBy (m .poolStart) (m .poolLength) (used k) (w .result)))
+    let u = headLength (head₃ (read₄ (mount₅ k))) + size k in
+    Stepped (answer (start₅ k)) (start₅ k .args .out .now) (w .last .1 .1 .1 .1 .1 .1 .1 .0) (steppingBy (m .poolStart) (m .poolLength) u (w .result)))
 made c =
     let k = c .before .before .before .before .before .before .before .before in
     let m = mount₅ k in
     let r = read₄ m in
     let l = lent₂ (head₃ r) in
-    let b : Body = record { body = body k; used = used k } in
-    let f : Forward = forwardBy (chosen m) (netstring (printing k) ++ body k) (used k) in
-    rw (step-written _ _ _ _ _ (lending l) (lent l .lent) _ (headed (head₃ r)) (request r) (sym (read r .answer)) (chosen m) (mount m .wins) b (ended k .is))
-    (answered-by f (start₅ k .args .out .now) _ _ (rw (is-block k) at (rw (parted k) at (c .before .before .before .write-request .ensures))))
+    let b : Body = record { body = body k; used = size k } in
+    let f : Forward = forwardBy (chosen m) (netstring (printing k) ++ body k) (headLength (head₃ r) + size k) in
+    rw (step-written _ _ _ _ _ (lending l) (lent l .lent) _ (headed (head₃ r)) (request r) (sym (read r .answer)) (chosen m) (mount m .wins) b (sized k .is))
+    (answered-by f (start₅ k .args .out .now) _ _ (rw (is-block k) at (c .before .before .before .write-request .ensures)))
 
 -- the pool's place and the bytes used that the answer names
 told :
     (c : tie.After-answered)
     → (let k = c .before .before .before .before .before .before .before .before in
     let m = chosen (mount₅ k) in
-    c .answered .result ≡ steppingBy (m .poolStart) (m .poolLength) (used k) (c .before .before .before .write-request .result))
+    let u = headLength (head₃ (read₄ (mount₅ k))) + size k in
+    c .answered .result ≡ steppingBy (m .poolStart) (m .poolLength) u (c .before .before .before .write-request .result))
 told c = c .answered .ensures
 
 returns-6 : tie.Need-returns-6
@@ -429,17 +438,19 @@ step-by-spec =
     number-requires-4
     same-length-2
     returns-4
-    body-end-requires
+    sub-after
+    part-after-start
+    part-after-end
+    read-body-requires
     enum-known-b
     enum-told-5
     number-requires-5
     same-length-3
     returns-5
-    sub-body
-    part-body-start
-    part-body-end
     slice-aggregate-write-request
+    slice-aggregate-write-request-2
     write-request-requires
+    add-answered
     answered-requires
     same-length-4
     same-length-5

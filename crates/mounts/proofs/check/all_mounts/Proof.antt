@@ -2,11 +2,12 @@
 -- Assumes nothing.
 use Prim.Native.Nat.{_-_, _≤_}
 use Prim.{absurd}
-use mathlib.Core.Path.{sym}
+use mathlib.Core.Path.{sym, ap, _∙_}
 use native.Mathlib.Omega.{arith}
 use lib.ListN.{length}
 use borrow.Author.Needs.{needs}
-use Rattle.mounts.proofs.MountSteps.{found-at, Walk, start, Step, step, isMount, always-header, no-more, other-first, slash-last, no-pool, is-mount}
+use Rattle.mounts.specs.Value.{valueOutcome}
+use Rattle.mounts.proofs.MountSteps.{found-at, Walk, start, Step, step, isMount, always-header, no-more, other-first, slash-last, bad-value, is-mount}
 use Rattle.mounts.proofs.check.all_mounts.Statement.{statement}
 use Rattle.mounts.proofs.check.all_mounts.Tie as tie
 use Rattle.headers.specs.Block.{headerOutcome, HeaderFound}
@@ -69,24 +70,46 @@ returns-3 c =
     let k = c .before .before .before .before in
     sym (header k .bad (slash-last _ _ _ _ (found k .order) (c .before .before .if1 .left) (c .if2 .taken)))
 
-add-if3 : tie.Need-add-if3 Inv-loop μ-loop
-add-if3 c = omega (arith, found (c .before .before .before .before) .order)
+add-read-value : tie.Need-add-read-value Inv-loop μ-loop
+add-read-value c = omega (arith, found (c .before .before .before .before) .order)
+
+sub-read-value : tie.Need-sub-read-value Inv-loop μ-loop
+sub-read-value c = omega (arith, found (c .before .before .before .before) .order)
+
+part-read-value-start : tie.Need-part-read-value-start Inv-loop μ-loop
+part-read-value-start c = omega (arith, found (c .before .before .before .before) .order)
+
+part-read-value-end : tie.Need-part-read-value-end Inv-loop μ-loop
+part-read-value-end c = omega (arith, found (c .before .before .before .before) .order)
+
+read-value-requires : tie.Need-read-value-requires Inv-loop μ-loop
+read-value-requires c κs = search needs
+
+enum-told-2 : tie.Need-enum-told-2 Inv-loop μ-loop
+enum-told-2 c = search needs
+
+enum-told-3 : tie.Need-enum-told-3 Inv-loop μ-loop
+enum-told-3 c = search needs
 
 returns-4 : tie.Need-returns-4 Inv-loop μ-loop
 returns-4 c =
-    let k = c .before .before .before .before .before in
-    sym (header k .bad (no-pool _ _ _ _ (found k .order) (c .before .before .before .if1 .left) (c .before .if2 .left) (c .if3 .taken)))
+    let e = c .before .before .before .before in
+    let k = e .before .before .before .before in
+    let v = sym (c .before .before .read-value .ensures) ∙ ap valueOutcome (c .enum-told3 .given .1) in
+    sym (header k .bad (bad-value _ _ _ _ (found k .order) (e .before .before .if1 .left) (e .if2 .left) v))
 
 add-i : tie.Need-add-i Inv-loop μ-loop
-add-i c = omega (arith, found (c .before .before .before .before .before) .order)
+add-i c = omega (arith, found (c .before .before .before .before .before .before .before .before) .order)
 
 loop-less : tie.Need-loop-less Inv-loop μ-loop
-loop-less c = omega (arith, found (c .before .before .before .before .before) .order)
+loop-less c = omega (arith, found (c .before .before .before .before .before .before .before .before) .order)
 
 loop-again : tie.Need-loop-again Inv-loop μ-loop
 loop-again c =
-    let k = c .before .before .before .before .before in
-    (omega (arith, found k .order), header k .good (is-mount _ _ _ _ (found k .order) (c .before .before .before .if1 .left) (c .before .if2 .left) (c .if3 .left)))
+    let e = c .before .before .before .before in
+    let k = e .before .before .before .before in
+    let v = sym (c .before .before .read-value .ensures) ∙ ap valueOutcome (c .enum-told2 .given .1) in
+    (omega (arith, found k .order), header k .good (is-mount _ _ _ _ (found k .order) (e .before .before .if1 .left) (e .if2 .left) _ v))
 
 returns-5 : tie.Need-returns-5 Inv-loop μ-loop
 returns-5 c = sym (no-more (c .before .loop .inv .1) (c .loop-test .left))
@@ -107,7 +130,13 @@ all-mounts-spec =
     sub-if2
     shared-slice-read-if2
     returns-3
-    add-if3
+    add-read-value
+    sub-read-value
+    part-read-value-start
+    part-read-value-end
+    read-value-requires
+    enum-told-2
+    enum-told-3
     returns-4
     add-i
     loop-less

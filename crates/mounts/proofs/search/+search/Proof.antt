@@ -4,6 +4,7 @@ use mathlib.Core.Path.{sym, ap, _∙_}
 use native.Mathlib.Nat.{le-of-lt}
 use lib.ListN.{length, length-take}
 use lib.Seq.{length-take-le}
+use Rattle.headers.proofs.Claims.{places-inside}
 use Rattle.mounts.proofs.Searches.{front-shorter, looked-up, good-formed, path-is-mount, no-mount, shorter-path}
 use Rattle.mounts.specs.Search.{slashPart}
 use borrow.Author.Needs.{needs}
@@ -16,6 +17,7 @@ use Rattle.mounts.proofs.search.search.Kinds as search-kinds
 use Rattle.mounts.proofs.search.+search.Lts-search as search-lts
 use Rattle.headers.proofs.lookup.seek.Reads as seek-reads
 use Rattle.mounts.proofs.search.last_slash.Reads as last-slash-reads
+use Rattle.mounts.proofs.search.found.Reads as found-reads
 use Rattle.mounts.proofs.search.+search.{statement}
 use Rattle.mounts.proofs.search.+search.Tie.{close}
 
@@ -35,6 +37,8 @@ search-seek-requires : (t : ℕ) → search-lts.Need-seek-requires (
   last-slash-reads.Learnt,
   search-below t,
   search′.Post,
+  found-reads.Asked,
+  found-reads.Learnt,
 ) (search-at t) search′.Post
 search-seek-requires t c κs = good-formed _ (c .before .before .pre .1)
 
@@ -45,6 +49,8 @@ search-enum-known-p : (t : ℕ) → search-lts.Need-enum-known-p (
   last-slash-reads.Learnt,
   search-below t,
   search′.Post,
+  found-reads.Asked,
+  found-reads.Learnt,
 ) (search-at t) search′.Post
 search-enum-known-p t c = search needs
 
@@ -55,6 +61,8 @@ search-enum-told : (t : ℕ) → search-lts.Need-enum-told (
   last-slash-reads.Learnt,
   search-below t,
   search′.Post,
+  found-reads.Asked,
+  found-reads.Learnt,
 ) (search-at t) search′.Post
 search-enum-told t c = search needs
 
@@ -65,6 +73,8 @@ search-last-slash-requires : (t : ℕ) → search-lts.Need-last-slash-requires (
   last-slash-reads.Learnt,
   search-below t,
   search′.Post,
+  found-reads.Asked,
+  found-reads.Learnt,
 ) (search-at t) search′.Post
 search-last-slash-requires t c κs = search needs
 
@@ -75,6 +85,8 @@ search-enum-known-s : (t : ℕ) → search-lts.Need-enum-known-s (
   last-slash-reads.Learnt,
   search-below t,
   search′.Post,
+  found-reads.Asked,
+  found-reads.Learnt,
 ) (search-at t) search′.Post
 search-enum-known-s t c = search needs
 
@@ -85,6 +97,8 @@ search-enum-told-2 : (t : ℕ) → search-lts.Need-enum-told-2 (
   last-slash-reads.Learnt,
   search-below t,
   search′.Post,
+  found-reads.Asked,
+  found-reads.Learnt,
 ) (search-at t) search′.Post
 search-enum-told-2 t c = search needs
 
@@ -95,6 +109,8 @@ search-returns : (t : ℕ) → search-lts.Need-returns (
   last-slash-reads.Learnt,
   search-below t,
   search′.Post,
+  found-reads.Asked,
+  found-reads.Learnt,
 ) (search-at t) search′.Post
 search-returns t c =
     let s = c .before .before .before .before .before .before .before .before in
@@ -107,6 +123,8 @@ search-slice-aggregate-search : (t : ℕ) → search-lts.Need-slice-aggregate-se
   last-slash-reads.Learnt,
   search-below t,
   search′.Post,
+  found-reads.Asked,
+  found-reads.Learnt,
 ) (search-at t) search′.Post
 search-slice-aggregate-search t c =
     let s = c .before .before .before .before .before .before .before .before .before .before in
@@ -119,6 +137,8 @@ search-search-requires : (t : ℕ) → search-lts.Need-search-requires (
   last-slash-reads.Learnt,
   search-below t,
   search′.Post,
+  found-reads.Asked,
+  found-reads.Learnt,
 ) (search-at t) search′.Post
 search-search-requires t c κs =
     let s = c .before .before .before .before .before .before .before .before .before .before in
@@ -132,11 +152,25 @@ search-returns-2 : (t : ℕ) → search-lts.Need-returns-2 (
   last-slash-reads.Learnt,
   search-below t,
   search′.Post,
+  found-reads.Asked,
+  found-reads.Learnt,
 ) (search-at t) search′.Post
 search-returns-2 t c =
     let l = c .before .before .before .before .before in
     let s = l .before .before .before .before .before .before in
     c .search .ensures ∙ shorter-path (s .args .mounts .now) (s .args .path .now) (s .pre .1) _ (looked-up _ _ _ _ (l .before .before .before .seek .ensures) (l .before .enum-told .given .1)) (sym (l .last-slash .ensures) ∙ ap (slashPart _) (c .before .before .before .s .given .1))
+
+search-found-requires : (t : ℕ) → search-lts.Need-found-requires (
+  seek-reads.Asked,
+  seek-reads.Learnt,
+  last-slash-reads.Asked,
+  last-slash-reads.Learnt,
+  search-below t,
+  search′.Post,
+  found-reads.Asked,
+  found-reads.Learnt,
+) (search-at t) search′.Post
+search-found-requires t c κs = places-inside .of-one _ _ _ (looked-up _ _ _ _ (c .before .before .before .seek .ensures) (c .before .p .given .1))
 
 search-returns-3 : (t : ℕ) → search-lts.Need-returns-3 (
   seek-reads.Asked,
@@ -145,10 +179,12 @@ search-returns-3 : (t : ℕ) → search-lts.Need-returns-3 (
   last-slash-reads.Learnt,
   search-below t,
   search′.Post,
+  found-reads.Asked,
+  found-reads.Learnt,
 ) (search-at t) search′.Post
 search-returns-3 t c =
-    let s = c .before .before .before .before .before .before in
-    path-is-mount (s .args .mounts .now) (s .args .path .now) (s .pre .1) _ (looked-up _ _ _ _ (c .before .before .before .seek .ensures) (c .before .p .given .1))
+    let s = c .before .before .before .before .before .before .before in
+    c .found .ensures ∙ path-is-mount (s .args .mounts .now) (s .args .path .now) (s .pre .1) _ (looked-up _ _ _ _ (c .before .before .before .before .seek .ensures) (c .before .before .p .given .1))
 
 pub +search-spec : {M : Type 1} → statement M
 +search-spec = close μ-search λ t. search-lts.spec (
@@ -158,6 +194,8 @@ pub +search-spec : {M : Type 1} → statement M
   last-slash-reads.Learnt,
   search-below t,
   search′.Post,
+  found-reads.Asked,
+  found-reads.Learnt,
 )
     (search-at t)
     search′.Post
@@ -171,4 +209,5 @@ pub +search-spec : {M : Type 1} → statement M
     (search-slice-aggregate-search t)
     (search-search-requires t)
     (search-returns-2 t)
+    (search-found-requires t)
     (search-returns-3 t)
