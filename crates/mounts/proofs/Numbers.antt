@@ -41,8 +41,8 @@ mounts-refuse : (i : ℕ) (hs : List Header) → Refuses (20 ∷ []) (mountsFrom
 unfolding mountsFrom
 mounts-refuse i [] = not-refused
 mounts-refuse i (h ∷ hs) =
-    refuses-then (mount-refuses (i + length (h .name) + 1) h)
-    (λ m. refuses-then (mounts-refuse (i + length (h .name) + 1 + length (h .value) + 1) hs) (λ ms. not-refused))
+    refuses-then (mount-refuses _ h)
+    (λ m. refuses-then (mounts-refuse _ hs) (λ ms. not-refused))
 
 pub mounts-number : MountsNumber
 unfolding mountsOf

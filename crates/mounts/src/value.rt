@@ -28,8 +28,7 @@ pub fn read_value(v: &[u8]) -> Value
     }
     let n = decimal::read(&v[len + 1..]);
     let Number::Value(limit) = n else {
-        // A second `;` is no digit.
-        return Value::Breach;
+        return Value::Breach; // a second `;` is no digit
     };
     if 1048576 < limit {
         return Value::Breach;
