@@ -27,8 +27,10 @@
  * 20 is given exactly where one of these fails, whatever the HTTP bytes:
  * - facts and site have at most OY_MAX_FACTS bytes each, mounts at most OY_MAX_MOUNTS bytes and OY_MAX_MOUNT_COUNT entries;
  * - each of the three is a block as above, with no name twice in it;
- * - each name of mounts begins with '/' and does not end with '/', and its value, the pool, is not empty. So no mount can be
- *   "/", and a request for "/" is always 19: such a page is the server's own. No mounts at all are allowed;
+ * - each name of mounts begins with '/' and does not end with '/'. So no mount can be "/", and a request for "/" is always 19:
+ *   such a page is the server's own. No mounts at all are allowed;
+ * - each value of mounts is a pool, or a pool, ';' and a limit. The pool is not empty and has no ';' in it; the limit is 0 to
+ *   OY_MAX_BODY in 1 to OY_MAX_DIGITS digits, zeros in front allowed;
  * - SERVER_NAME, SERVER_PORT and SERVER_SOFTWARE stand in facts or else in site, and the one found first is not empty;
  * - the port is 1 to 65535 in digits without a leading zero;
  * - REMOTE_ADDR stands in facts and is not empty;
@@ -82,7 +84,7 @@ extern "C" {
 
 /* The version, of which this is the one source: pkg-config and cargo are told the same. */
 #define OYINKAFUBO_VERSION_MAJOR 0
-#define OYINKAFUBO_VERSION_MINOR 3
+#define OYINKAFUBO_VERSION_MINOR 4
 #define OYINKAFUBO_VERSION_PATCH 0
 
 /* The version as text: "MAJOR.MINOR.PATCH". */
@@ -101,7 +103,7 @@ enum oy_refusal {
     OY_HEADERS = 6,            /* more than OY_MAX_HEADERS headers */
     OY_TWICE = 7,              /* two headers with equal names */
     OY_FIRST = 8,              /* the first header is not CONTENT_LENGTH with 1 to OY_MAX_DIGITS digits */
-    OY_BODY_LONG = 9,          /* stated body length above OY_MAX_BODY */
+    OY_BODY_LONG = 9,          /* stated body length above OY_MAX_BODY; in oy_gateway, above the mount's limit */
     OY_SCGI = 10,              /* no header SCGI with value 1 */
     OY_HEAD_LONG = 11,         /* no end of the HTTP head in its first OY_MAX_HEAD bytes */
     OY_REQUEST_LINE = 12,      /* request line malformed */
@@ -124,8 +126,8 @@ enum oy_refusal {
 enum oy_limit {
     OY_MAX_BLOCK = 16384,   /* bytes of a request's block */
     OY_MAX_HEADERS = 128,   /* headers of a request's block */
-    OY_MAX_BODY = 1048576,  /* bytes of a body */
-    OY_MAX_DIGITS = 10,     /* digits of a CONTENT_LENGTH or a Content-Length, zeros in front counted */
+    OY_MAX_BODY = 1048576,  /* bytes of a body, and the limit of a mount that names none */
+    OY_MAX_DIGITS = 10,     /* digits of a CONTENT_LENGTH, a Content-Length or a mount's limit, zeros in front counted */
     OY_MAX_HEAD = 8192,     /* bytes of an HTTP or script response head with its empty line */
     OY_MAX_METHOD = 32,     /* bytes of a method */
     OY_MAX_TARGET = 4096,   /* bytes of a target */
@@ -207,7 +209,7 @@ enum oy_spool_index {
 enum oy_gateway_index {
     OY_GATEWAY_WRITTEN = 0,     /* bytes written to the output */
     OY_GATEWAY_POOL_START = 1,  /* of the pool in the mounts */
-    OY_GATEWAY_POOL_LENGTH = 2, /* of the pool */
+    OY_GATEWAY_POOL_LENGTH = 2, /* of the pool, without ';' and limit */
     OY_GATEWAY_USED = 3,        /* bytes of the HTTP request, head and body */
     OY_GATEWAY_NUMBERS = 4
 };
@@ -266,8 +268,9 @@ uint64_t oy_spool(const uint8_t *bytes, size_t len, uint64_t *lengths, size_t le
 /*
  * Writes the SCGI request for the HTTP/1.0 or 1.1 request at the start of `http` to `out`. Bytes after it are not looked at.
  * `facts` has REMOTE_ADDR, and AUTH_TYPE with REMOTE_USER where the user is known; `facts` or else `site` has SERVER_NAME,
- * SERVER_PORT and SERVER_SOFTWARE; `mounts` has a path for each name and a pool for each value, and the longest path that fits
- * wins. Fields of one name become one variable, their values joined in order with ", ", those of Cookie with "; ".
+ * SERVER_PORT and SERVER_SOFTWARE; `mounts` has a path for each name, and for each value a pool, or a pool, ';' and how many
+ * bytes a body may have there ("witness;65536"). The longest path that fits wins, and a body above its limit is 9.
+ * Fields of one name become one variable, their values joined in order with ", ", those of Cookie with "; ".
  * Gives: the numbers of enum oy_gateway_index.
  * Refusals in their order: 20, then 11 or 1 where the head has no end, 12, 13, 14, 15, 16, 17, 18, 19, 9, 1 where the body is
  * short, 21.

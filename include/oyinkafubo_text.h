@@ -31,7 +31,7 @@ OYINKAFUBO_MAY_REST_ static const struct oy_refusal_entry *oy_refusal_row(uint64
         /*  6 */ {400, "more than 128 headers"},
         /*  7 */ {400, "two headers with equal names"},
         /*  8 */ {400, "the first header is not CONTENT_LENGTH with 1 to 10 digits"},
-        /*  9 */ {413, "stated body length above 1,048,576"},
+        /*  9 */ {413, "stated body length above 1,048,576 or the mount's limit"},
         /* 10 */ {400, "no header SCGI with value 1"},
         /* 11 */ {431, "HTTP head above 8,192 bytes"},
         /* 12 */ {400, "request line malformed"},

@@ -33,7 +33,8 @@ BytesExactlyMeaning =
 
 -- what is written for an accepted request: the variables of its meaning and the meaning's body, a request of the 2008 text within our
 -- limits, under the mount that wins for the decoded path: "SCRIPT_NAME is that name, PATH_INFO the rest", the pool is that mount's, and the
--- body is within that mount's limit; whatever stands behind it, the SCGI reader accepts it, with just this block and this body, and uses just the bytes written
+-- body is within that mount's limit; whatever stands behind it, the SCGI reader accepts it, with just this block and this body, and uses
+-- just the bytes written
 pub record WrittenFor (facts site mounts http rest : List ℕ) (f : Forward) : Type 0 where
   pub lent : Lent
   pub meaning : Meaning

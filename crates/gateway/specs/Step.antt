@@ -39,8 +39,9 @@ pub record Forward : Type 0 where
 abbrev pub forwardBy : Mount → List ℕ → ℕ → Forward
 forwardBy m scgi used = record { scgi = scgi; poolStart = m .poolStart; poolLength = m .poolLength; used = used }
 
--- "Order: 20; then 11 or 1; 12; 13; 14; 15; 16; 17; 18; 19; 9; 1 for a short body": what is to be written, whatever the room. 02 §13: 9
--- by the limit of the mount that wins. 02 §10: no 22, since the variables of every accepted request fit (`VariablesFit`); "keep the number unused"
+-- "Order: 20; then 11 or 1; 12; 13; 14; 15; 16; 17; 18; 19; 9; 1 for a short body": what is to be written, whatever the room. 02 §13: 9 by
+-- the limit of the mount that wins. 02 §10: no 22, since the variables of every accepted request fit (`VariablesFit`); "keep the number
+-- unused"
 unfoldable pub forwardOf : Outcome Lent → List ℕ → Outcome Forward
 forwardOf lent http =
     then lent (λ l.

@@ -27,8 +27,8 @@ pub record BlocksHold : Type 0 where
   pub accepts : (limit : ℕ) (block : List ℕ) (hs : List Header) → blockOf limit block ≡ gives hs → BlockHolds limit block hs
   pub number : (limit : ℕ) (block : List ℕ) (n : ℕ) → blockOf limit block ≡ refused n → n ≡ 20
 
--- what the answer of the code that stores names says of the block: a list is full exactly where it lacks room, else the block is refused or is
--- one of n headers
+-- what the answer of the code that stores names says of the block: the list is full exactly where it lacks room, else the block is refused or
+-- accepted
 pub record BlocksTold : Type 0 where
   pub full : (limit room : ℕ) (block : List ℕ) → none ≡ storedOf limit room block → lacksRoom limit room block ≡ true
   pub breach :
@@ -57,7 +57,8 @@ pub record MountOf (block : List ℕ) (m : Mount) (h : Header) : Type 0 where
 -- .. one by one
 pub data Each (block : List ℕ) : List Mount → List Header → Type 0 where
   none-left : Each block [] []
-  one-more : {m : Mount} {h : Header} {ms : List Mount} {hs : List Header} → MountOf block m h → Each block ms hs → Each block (m ∷ ms) (h ∷ hs)
+  one-more :
+      {m : Mount} {h : Header} {ms : List Mount} {hs : List Header} → MountOf block m h → Each block ms hs → Each block (m ∷ ms) (h ∷ hs)
 
 pub record MountsSay (block : List ℕ) (ms : List Mount) : Type 0 where
   pub hs : List Header

@@ -16,8 +16,8 @@ use Rattle.mounts.specs.declared.value.Value.the-variants.{Pool, Breach}
 abbrev pub poolOf : List ℕ → List ℕ
 poolOf v = parted 59 v .first
 
--- by what stands behind each `;`: "a limit of 0 to 1,048,576 under §2's digit rule; without `;` the old limit holds"; "a second `;` or a bad
--- limit is 20"
+-- by what stands behind each `;`: "a limit of 0 to 1,048,576 under §2's digit rule; without `;` the old limit holds"; "a second `;` or a
+-- bad limit is 20"
 abbrev pub limitBy : List (List ℕ) → Outcome ℕ
 limitBy [] = gives 1048576
 limitBy (t ∷ []) = then (given (numberOf t) 20) (λ n. need (leb n 1048576) 20 (gives n))

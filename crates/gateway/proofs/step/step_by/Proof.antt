@@ -358,7 +358,9 @@ slice-aggregate-write-request : tie.Need-slice-aggregate-write-request
 slice-aggregate-write-request c = search needs
 
 slice-aggregate-write-request-2 : tie.Need-slice-aggregate-write-request-2
-slice-aggregate-write-request-2 c = sym (length-take-le _ _ (sized (c .before .before .before) .inside))
+slice-aggregate-write-request-2 c =
+    let k = c .before .before .before in
+    simp (length-take, length-drop) (omega (arith, simp (length-take, length-drop) at (sized k .inside), within (head₃ (read₄ (mount₅ k))) .inside))
 
 write-request-requires : tie.Need-write-request-requires
 write-request-requires c κs = fits (c .before .before .before .before)

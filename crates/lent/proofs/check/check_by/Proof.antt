@@ -16,8 +16,8 @@ use Rattle.lent.proofs.check.check_by.Statement.{statement}
 use Rattle.lent.proofs.check.check_by.Tie as tie
 
 -- what was found, by the answer
-said : {b before after : List ℕ} {r q : Storing} → BlockFound 1024 b before after r → r ≡ q → BlockFound 1024 b before after q
-said {b} {before} {after} f e = subst (BlockFound 1024 b before after) e f
+said : {limit : ℕ} {b before after : List ℕ} {r q : Storing} → BlockFound limit b before after r → r ≡ q → BlockFound limit b before after q
+said {limit} {b} {before} {after} f e = subst (BlockFound limit b before after) e f
 
 named : {b before after : List ℕ} {n : ℕ} → BlockFound 1024 b before after (Done (Headers n)) → BlockNamed b after n
 named {b} {before} {after} {n} f = record { good = blocks-told .good 1024 (length before) b n (f .answer) .1; stored = f .stored }
