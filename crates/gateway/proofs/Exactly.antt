@@ -55,22 +55,22 @@ bytes-exactly-meaning facts site mounts http http′ room room′ f f′ e e′ 
     let lent = lentOf facts site mounts in
     let g = without-room lent http room f e in
     let z = lent-of lent http f g in
-    let a = told-of facts site mounts http (z .k) (z .is) f g in
-    let b = told-of facts site mounts http′ (z .k) (z .is) f′ (without-room lent http′ room′ f′ e′) in
-    (bytes-mean (z .k) http http′ f f′ a b, meaning-bytes (z .k) http http′ f f′ a b)
+    let a = told-of facts site mounts http (z .it) (z .is) f g in
+    let b = told-of facts site mounts http′ (z .it) (z .is) f′ (without-room lent http′ room′ f′ e′) in
+    (bytes-mean (z .it) http http′ f f′ a b, meaning-bytes (z .it) http http′ f f′ a b)
 
 pub written-is-accepted : WrittenIsAccepted
 written-is-accepted facts site mounts http rest room f e =
     let lent = lentOf facts site mounts in
     let g = without-room lent http room f e in
     let z = lent-of lent http f g in
-    let a = told-of facts site mounts http (z .k) (z .is) f g in
-    let hs = variables (z .k .settings) (route a) (a .meaning) in
+    let a = told-of facts site mounts http (z .it) (z .is) f g in
+    let hs = variables (z .it .settings) (route a) (a .meaning) in
     let w : writeOf (printed hs) (a .meaning .body) (length (f .scgi)) ≡ gives (f .scgi) =
     writes-exactly (printed hs) (a .meaning .body) (length (f .scgi)) (f .scgi) .1
     (record { hs = hs; block-is = refl; request = a .request; bytes = a .bytes; fits = le-refl (length (f .scgi)) }) in
     record {
-      lent = z .k;
+      lent = z .it;
       meaning = a .meaning;
       target = a .target;
       mount = a .mount;

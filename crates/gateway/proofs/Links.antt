@@ -8,7 +8,7 @@ use lib.Dec.{leb}
 use lib.ListN.{length, take, drop, length-take}
 use borrow.Author.Tests.{le-leb, leb-true}
 use Rattle.octets.specs.Outcome.{Outcome, gives, need}
-use Rattle.octets.proofs.Outcomes.{need-gives, gives-once, then-gives}
+use Rattle.octets.proofs.Outcomes.{Given, need-gives, gives-once, then-gives}
 use Rattle.http.specs.Head.{headOf}
 use Rattle.mounts.specs.Mounts.{Mount, mountFor, routeOf}
 use Rattle.lent.specs.Lent.{Lent}
@@ -76,15 +76,11 @@ links k http f e =
     }
 
 -- what is lent where a request is accepted
-pub record Lending (lent : Outcome Lent) : Type 0 where
-  pub k : Lent
-  pub is : lent ≡ gives k
-
-pub lent-of : (lent : Outcome Lent) (http : List ℕ) (f : Forward) → forwardOf lent http ≡ gives f → Lending lent
+pub lent-of : (lent : Outcome Lent) (http : List ℕ) (f : Forward) → forwardOf lent http ≡ gives f → Given lent
 unfolding forwardOf
 lent-of lent http f e =
     let a = then-gives lent _ f e in
-    record { k = a .it; is = a .first }
+    record { it = a .it; is = a .first }
 
 -- 21 depends on the room alone
 pub without-room : (lent : Outcome Lent) (http : List ℕ) (room : ℕ) (f : Forward) → stepWith lent http room ≡ gives f → forwardOf lent http ≡ gives f

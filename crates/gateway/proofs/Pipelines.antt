@@ -53,7 +53,7 @@ keeps-forward (gives k) s t = after-lent k s t
 within : (lent : Outcome Lent) (s : List ℕ) (f : Forward) → forwardOf lent s ≡ gives f → (0 < f .used) × (f .used ≤ length s)
 within lent s f e =
     let z = lent-of lent s f e in
-    let l = links (z .k) s f (rw (z .is) at e) in
+    let l = links (z .it) s f (rw (z .is) at e) in
     let b = body-links (l .m .limit) (l .q .bodyLength) (drop (l .h) s) (l .b) (l .body) in
     let u : f .used ≡ l .h + l .b .used = ap (λ (x : Forward). x .used) (l .written) in
     let w = heads-hold .within s (l .h) (l .head) in

@@ -1,7 +1,6 @@
 -- Laws of the check of what is lent, step by step, and of its answers.
 -- Assumes nothing.
 use Prim.Native.Nat.{ℕ, _*_, _≤_}
-use Prim.{absurd}
 use mathlib.Core.Path.{_≡_, refl, sym, ap, _∙_}
 use mathlib.Core.Bool.{Bool, true, false, false≢true, not, _&&_}
 use mathlib.Core.List.{List, [], _∷_}
@@ -11,16 +10,16 @@ use lib.Dec.{leb}
 use lib.ListN.{length}
 use borrow.Author.Tests.{leb-true, le-ltb}
 use Rattle.octets.specs.Text.{bytes}
-use Rattle.octets.specs.Outcome.{Outcome, refused, gives, then, given}
+use Rattle.octets.specs.Outcome.{Outcome, refused, gives, isGood, then, given}
 use Rattle.octets.specs.Kinds.{oneOf}
 use Rattle.octets.specs.Lists.{isNil}
 use Rattle.octets.proofs.Bools.{and-false}
-use Rattle.octets.proofs.Outcomes.{gives-once, then-gives}
+use Rattle.octets.proofs.Outcomes.{Given as Answer, good-gives, gives-once, then-gives}
 use Rattle.octets.proofs.Refusals.{Refuses, with-number, not-refused, only-number, refuses-then, refuses-need, refuses-given}
 use Rattle.headers.specs.Block.{Header, headersOf}
 use Rattle.headers.specs.Lookup.{valueIn}
 use Rattle.headers.proofs.Claims.{headers-few, places-inside}
-use Rattle.mounts.specs.Blocks.{blockOf, isGood, BlockGood, manyFor, lacksRoom, storedOf}
+use Rattle.mounts.specs.Blocks.{blockOf, BlockGood, manyFor, lacksRoom, storedOf}
 use Rattle.mounts.specs.Mounts.{Mount, mountsOf}
 use Rattle.mounts.proofs.Claims.{blocks-hold, blocks-told, mounts-number}
 use Rattle.lent.specs.Settings.{Settings, filled, orIn, sought, isPort, portIn, authOf, settingsOf}
@@ -39,18 +38,7 @@ use Rattle.lent.specs.declared.settings.Settings.the-variants.{At as Set
 use Rattle.lent.proofs.Links.{lent-mounts}
 use Rattle.lent.proofs.SettingSteps.{value-inside}
 
--- The mounts, by the test of them.
-
-pub record Mounted (mounts : List ℕ) : Type 0 where
-  pub ms : List Mount
-  pub are : mountsOf mounts ≡ gives ms
-
-good-mounts : (mounts : List ℕ) → isGood (mountsOf mounts) ≡ true → Mounted mounts
-good-mounts mounts e = by (mountsOf mounts) refl e
-  where
-    by : (o : Outcome (List Mount)) → mountsOf mounts ≡ o → isGood o ≡ true → Mounted mounts
-    by (gives ms) q r = record { ms = ms; are = q }
-    by (refused k) q r = absurd (false≢true r)
+-- Mounts that fail the test of them.
 
 bad-mounts : (mounts : List ℕ) → isGood (mountsOf mounts) ≡ false → mountsOf mounts ≡ refused 20
 bad-mounts mounts e = by (mountsOf mounts) refl e
@@ -77,13 +65,13 @@ module _ (facts site mounts : List ℕ) where
       wrong-mounts e = record { answer = sym (rw (f .accepted, s .accepted, bad-mounts mounts e)); places = tt }
 
       module _ (g : isGood (mountsOf mounts) ≡ true) where
-        m : Mounted mounts
-        m = good-mounts mounts g
+        m : Answer (mountsOf mounts)
+        m = good-gives (mountsOf mounts) g
 
         -- what is left of the chain
-        left : lentOf facts site mounts ≡ then (settingsOf (f .hs) (s .hs)) (λ x. gives (record { settings = x; mounts = m .ms }))
+        left : lentOf facts site mounts ≡ then (settingsOf (f .hs) (s .hs)) (λ x. gives (record { settings = x; mounts = m .it }))
         unfolding lentOf
-        left = rw (f .accepted, s .accepted, m .are)
+        left = rw (f .accepted, s .accepted, m .is)
 
         pub wrong-settings : SettingsFound facts site SettingsBreach → LentFound facts site mounts (Refused 20)
         wrong-settings x =

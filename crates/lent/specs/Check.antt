@@ -4,9 +4,9 @@ use Prim.Native.Nat.{ℕ}
 use mathlib.Core.Path.{_≡_}
 use mathlib.Core.Bool.{Bool, true, false, _&&_, _||_}
 use mathlib.Core.List.{List}
-use Rattle.octets.specs.Outcome.{Outcome, refused, gives, then}
+use Rattle.octets.specs.Outcome.{Outcome, refused, gives, isGood, then}
 use Rattle.headers.specs.Names.{NamesIn}
-use Rattle.mounts.specs.Blocks.{blockOf, isGood, BlockGood, lacksRoom}
+use Rattle.mounts.specs.Blocks.{blockOf, BlockGood, lacksRoom}
 use Rattle.lent.specs.Settings.{Settings}
 use Rattle.lent.specs.Lent.{lentOf}
 use Rattle.lent.specs.Places.{settingsAt, SettingsHeld}

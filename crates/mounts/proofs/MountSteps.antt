@@ -10,7 +10,7 @@ use native.Mathlib.Omega.{arith}
 use lib.Dec.{eqb, leb, ltb}
 use lib.ListN.{length, take, drop, getD, length-take, length-drop, drop-of-length-le}
 use borrow.Author.Tests.{eq-eqb, ne-eqb, lt-leb, le-leb, ltb-true, ltb-false}
-use Rattle.octets.specs.Outcome.{Outcome, refused, gives, then, need, given}
+use Rattle.octets.specs.Outcome.{Outcome, refused, gives, isGood, then, need, given}
 use Rattle.octets.specs.Lists.{different}
 use Rattle.octets.specs.Parts.{parted}
 use Rattle.octets.proofs.Bools.{and-left, and-right}
@@ -21,7 +21,7 @@ use Rattle.headers.specs.Claims.{Headed}
 use Rattle.headers.specs.declared.block.HeaderPlace.{HeaderPlace}
 use Rattle.headers.specs.declared.block.HeaderPlace.the-variants.{At, Refused}
 use Rattle.headers.proofs.Claims.{well-formed-headed, header-parses}
-use Rattle.mounts.specs.Blocks.{blockOf, isGood, manyFor, lacksRoom, BlockGood}
+use Rattle.mounts.specs.Blocks.{blockOf, manyFor, lacksRoom, BlockGood}
 use Rattle.mounts.specs.Value.{Value, valueOf}
 use Rattle.mounts.specs.Mounts.{Mount, begins, ends, mountAt, mountsFrom, mountsOf}
 use Rattle.mounts.proofs.BlockSteps.{blocks-hold}

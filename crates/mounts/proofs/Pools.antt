@@ -14,7 +14,7 @@ use Rattle.octets.specs.Lists.{All, _&_, isNil}
 use Rattle.octets.specs.Scan.{run, other}
 use Rattle.octets.proofs.Scans.{run-le}
 use Rattle.octets.proofs.Outcomes.{need-gives, gives-once, then-gives}
-use Rattle.headers.specs.Block.{Header, Proper, printed}
+use Rattle.headers.specs.Block.{Header, Proper, printed, parsed}
 use Rattle.headers.proofs.Claims.{headers-proper, printed-parsed}
 use Rattle.mounts.specs.Blocks.{blockOf}
 use Rattle.mounts.specs.Value.{poolOf, limitOf, Value, valueOf}
@@ -83,15 +83,25 @@ module _ (b : List ℕ) where
       let rest = each-at (j + length (h .value) + 1) hs (g .it) ps (behind j (h .value) (printed hs) n) (g .first) in
       subst (λ (x : List Mount). Each b x (h ∷ hs)) (gives-once _ ms (g .next)) (one-more m rest)
 
-pub mounts-are-headers : MountsAreHeaders
+-- Mounts that are what they must be, and their headers.
+
+pub record Held (block : List ℕ) (ms : List Mount) : Type 0 where
+  pub hs : List Header
+  pub headers : parsed block ≡ gives hs
+  pub made : mountsFrom 0 hs ≡ gives ms
+
+pub held : (block : List ℕ) (ms : List Mount) → mountsOf block ≡ gives ms → Held block ms
 unfolding mountsOf
-mounts-are-headers block ms e =
+held block ms e =
     let f = then-gives (blockOf 4096 block) _ ms e in
-    let hs : List Header = f .it in
-    let g = need-gives (leb (length hs) 32) 20 (mountsFrom 0 hs) ms (f .next) in
-    let h = blocks-hold .accepts 4096 block hs (f .first) .headers in
+    let g = need-gives (leb (length (f .it)) 32) 20 (mountsFrom 0 (f .it)) ms (f .next) in
+    record { hs = f .it; headers = blocks-hold .accepts 4096 block (f .it) (f .first) .headers; made = g .1 }
+
+pub mounts-are-headers : MountsAreHeaders
+mounts-are-headers block ms e =
+    let h = held block ms e in
     record {
-      hs = hs;
-      are = h;
-      each = each-at block 0 hs ms (headers-proper block hs h) (sym (printed-parsed .bytes block hs h)) (g .1);
+      hs = h .hs;
+      are = h .headers;
+      each = each-at block 0 (h .hs) ms (headers-proper block (h .hs) (h .headers)) (sym (printed-parsed .bytes block (h .hs) (h .headers))) (h .made);
     }

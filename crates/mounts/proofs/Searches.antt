@@ -1,29 +1,25 @@
 -- Laws of the search for a mount, one try at a time.
 -- Assumes nothing.
 use Prim.Native.Nat.{ℕ, _+_, _<_}
-use Prim.{absurd}
 use mathlib.Core.Path.{_≡_, refl, sym, ap, subst, _∙_}
-use mathlib.Core.Bool.{Bool, true, false, false≢true, cond}
+use mathlib.Core.Bool.{Bool, true, false, cond}
 use mathlib.Core.List.{List, [], _∷_}
 use mathlib.Core.Option.{Option, none, some}
 use native.Mathlib.Omega.{arith}
-use lib.Dec.{leb}
 use lib.ListN.{length, take, length-take}
-use Rattle.octets.specs.Outcome.{Outcome, refused, gives, then, given}
+use Rattle.octets.specs.Outcome.{gives, isGood, then, given}
 use Rattle.octets.specs.Compare.{sameBytes}
 use Rattle.octets.proofs.Compares.{same-true}
-use Rattle.octets.proofs.Outcomes.{need-gives, gives-once, then-gives}
-use Rattle.headers.specs.Block.{Header, parsed, wellFormed}
+use Rattle.octets.proofs.Outcomes.{Given, good-gives, gives-once, then-gives}
+use Rattle.headers.specs.Block.{Header, wellFormed}
 use Rattle.headers.specs.Lookup.{Part, partIn, partOption, valueIn, placeIn, placeOption, lookupOf}
 use Rattle.headers.specs.declared.lookup.Place.{Place}
-use Rattle.headers.proofs.Claims.{well-formed-headed, lookup-finds-value, places-inside}
-use Rattle.mounts.specs.Blocks.{blockOf, isGood}
+use Rattle.headers.proofs.Claims.{well-formed-headed, lookup-finds-value}
 use Rattle.mounts.specs.Mounts.{Mount, mountAt, mountsFrom, mountsOf}
 use Rattle.mounts.specs.Search.{shortened, mountNamed, tried, placeOf, placeBy, searchOf, mountOutcome}
 use Rattle.mounts.specs.declared.search.Mount.the-variants.{Refused}
-use Rattle.mounts.proofs.BlockSteps.{blocks-hold}
 use Rattle.mounts.proofs.Mounts.{shortened-shorter, tried-here, tried-last, tried-on}
-use Rattle.mounts.proofs.Pools.{mount-made}
+use Rattle.mounts.proofs.Pools.{mount-made, Held, held}
 
 -- the path without its last segment is a front of the path
 pub front-shorter : (path : List ℕ) (k : ℕ) → shortened path ≡ some (take k path) → k < length path
@@ -80,56 +76,43 @@ named name i (h ∷ hs) ms e =
 
 -- Mounts that are what they must be.
 
-pub record Held (mounts : List ℕ) : Type 0 where
-  pub hs : List Header
-  pub ms : List Mount
-  pub headers : parsed mounts ≡ gives hs
-  pub made : mountsFrom 0 hs ≡ gives ms
-  pub are : mountsOf mounts ≡ gives ms
-
-held : (mounts : List ℕ) (ms : List Mount) → mountsOf mounts ≡ gives ms → Held mounts
-unfolding mountsOf
-held mounts ms e =
-    let f = then-gives (blockOf 4096 mounts) _ ms e in
-    let g = need-gives (leb (length (f .it)) 32) 20 (mountsFrom 0 (f .it)) ms (f .next) in
-    record { hs = f .it; ms = ms; headers = blocks-hold .accepts 4096 mounts (f .it) (f .first) .headers; made = g .1; are = e }
-
-pub good-held : (mounts : List ℕ) → isGood (mountsOf mounts) ≡ true → Held mounts
-good-held mounts e = by (mountsOf mounts) refl e
-  where
-    by : (o : Outcome (List Mount)) → mountsOf mounts ≡ o → isGood o ≡ true → Held mounts
-    by (gives ms) q r = held mounts ms q
-    by (refused k) q r = absurd (false≢true r)
+good-held : (mounts : List ℕ) (good : isGood (mountsOf mounts) ≡ true) → Held mounts (good-gives (mountsOf mounts) good .it)
+good-held mounts good =
+    let g = good-gives (mountsOf mounts) good in
+    held mounts (g .it) (g .is)
 
 pub good-formed : (mounts : List ℕ) → isGood (mountsOf mounts) ≡ true → wellFormed mounts ≡ true
-good-formed mounts e =
-    let h = good-held mounts e in
+good-formed mounts good =
+    let h = good-held mounts good in
     well-formed-headed mounts .1 (record { hs = h .hs; is = h .headers })
 
 module _ (mounts path : List ℕ) (good : isGood (mountsOf mounts) ≡ true) where
-  h : Held mounts
-  h = good-held mounts good
+  g : Given (mountsOf mounts)
+  g = good-gives (mountsOf mounts) good
+
+  h : Held mounts (g .it)
+  h = held mounts (g .it) (g .is)
 
   -- what the lookup says of the path as a name
-  looked : (o : Option Part) → lookupOf mounts path ≡ gives o → NamedBy path o (partOption mounts o) (h .ms)
+  looked : (o : Option Part) → lookupOf mounts path ≡ gives o → NamedBy path o (partOption mounts o) (g .it)
   unfolding lookupOf
   looked o e =
       let z : placeIn path 0 (h .hs) ≡ o = gives-once _ o (rw (h .headers) at e) in
       let v = lookup-finds-value mounts path (h .hs) o (h .headers) e in
-      subst (λ (x : Option (List ℕ)). NamedBy path o x (h .ms)) (sym v)
-      (subst (λ (x : Option Part). NamedBy path x (valueIn path (h .hs)) (h .ms)) z (named path 0 (h .hs) (h .ms) (h .made)))
+      subst (λ (x : Option (List ℕ)). NamedBy path o x (g .it)) (sym v)
+      (subst (λ (x : Option Part). NamedBy path x (valueIn path (h .hs)) (g .it)) z (named path 0 (h .hs) (g .it) (h .made)))
 
-  searched : (o : Option Mount) → tried (h .ms) path ≡ o → searchOf mounts path ≡ then (given o 19) (λ m. gives (placeOf m))
-  searched o e = rw (h .are, e)
+  searched : (o : Option Mount) → tried (g .it) path ≡ o → searchOf mounts path ≡ then (given o 19) (λ m. gives (placeOf m))
+  searched o e = rw (g .is, e)
 
   pub path-is-mount : (p : Part) → lookupOf mounts path ≡ gives (some p) → placeBy (length path) (p .start) (partIn mounts p) ≡ searchOf mounts path
   path-is-mount p e =
       let n = looked (some p) e in
       let d = mount-made (p .start) (record { name = path; value = partIn mounts p }) (n .m) (n .made) in
-      rw (d .read) (ap (λ (m : Mount). gives (placeOf m)) (d .is)) ∙ sym (searched (some (n .m)) (tried-here (h .ms) path (n .m) (n .is)))
+      rw (d .read) (ap (λ (m : Mount). gives (placeOf m)) (d .is)) ∙ sym (searched (some (n .m)) (tried-here (g .it) path (n .m) (n .is)))
 
   pub no-mount : lookupOf mounts path ≡ gives none → shortened path ≡ none → mountOutcome (Refused 19) ≡ searchOf mounts path
-  no-mount e s = sym (searched none (tried-last (h .ms) path (looked none e) s))
+  no-mount e s = sym (searched none (tried-last (g .it) path (looked none e) s))
 
   pub shorter-path : (t : List ℕ) → lookupOf mounts path ≡ gives none → shortened path ≡ some t → searchOf mounts t ≡ searchOf mounts path
-  shorter-path t e s = rw (h .are, tried-on (h .ms) path t (looked none e) s)
+  shorter-path t e s = rw (g .is, tried-on (g .it) path t (looked none e) s)

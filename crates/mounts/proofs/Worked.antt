@@ -6,7 +6,7 @@ use mathlib.Core.Path.{_≡_, refl}
 use mathlib.Core.Bool.{true}
 use mathlib.Core.List.{List, [], _∷_, map}
 use Rattle.octets.specs.Text.{bytes, barred}
-use Rattle.octets.specs.Outcome.{Outcome, refused, gives, then}
+use Rattle.octets.specs.Outcome.{Outcome, refused, gives, isGood, then}
 use Rattle.octets.specs.Kinds.{isDigit}
 use Rattle.octets.specs.Decimal.{numberFrom}
 use Rattle.octets.specs.Compare.{sameBytes}
@@ -14,7 +14,6 @@ use Rattle.octets.specs.Lists.{isIn, different}
 use Rattle.octets.specs.Scan.{count}
 use Rattle.octets.specs.Parts.{parted}
 use Rattle.headers.specs.Block.{Header, paired, printed}
-use Rattle.mounts.specs.Blocks.{isGood}
 use Rattle.mounts.specs.Value.{Value, valueOf}
 use Rattle.mounts.specs.Mounts.{mountsFrom, mountsOf, Route, begins, ends, mountOf, mountFor, routeOf}
 use Rattle.mounts.specs.Search.{shortened, mountNamed, triedIn, MountPlace, searchOf}

@@ -2,7 +2,7 @@
 -- Assumes nothing.
 use Prim.Native.Nat.{ℕ, _*_}
 use mathlib.Core.Path.{_≡_}
-use mathlib.Core.Bool.{Bool, true, false, cond, _&&_}
+use mathlib.Core.Bool.{Bool, false, cond, _&&_}
 use mathlib.Core.List.{List}
 use mathlib.Core.Option.{Option, none, some}
 use lib.Dec.{leb, ltb}
@@ -21,11 +21,6 @@ blockOf limit block =
     need (leb (length block) limit) 20
     (then (given (headersOf block) 20) (λ hs.
     need (different (names hs)) 20 (gives hs)))
-
--- whether there is no refusal
-abbrev pub isGood : {A : Type 0} → Outcome A → Bool
-isGood (gives a) = true
-isGood (refused k) = false
 
 -- the headers of a block that is accepted
 pub record BlockGood (limit : ℕ) (block : List ℕ) : Type 0 where

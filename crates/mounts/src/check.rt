@@ -1,9 +1,8 @@
 // Whether mounts are what they must be.
 ghost use mathlib.Core.Path.{_≡_};
 ghost use mathlib.Core.Bool.{true};
-ghost use Rattle.octets.specs.Outcome.{then};
+ghost use Rattle.octets.specs.Outcome.{isGood, then};
 ghost use Rattle.headers.specs.Block.{parsed, wellFormed};
-ghost use Rattle.mounts.specs.Blocks.{isGood};
 ghost use Rattle.mounts.specs.Mounts.{mountsFrom, mountsOf};
 use crate::blocks::Named;
 use crate::blocks::Storing;

@@ -4,9 +4,9 @@ use Prim.Native.Nat.{ℕ}
 use Prim.{absurd}
 use native.Mathlib.Omega.{arith}
 use mathlib.Core.Path.{_≡_, refl}
-use mathlib.Core.Bool.{Bool, true, false}
+use mathlib.Core.Bool.{Bool, true, false, false≢true}
 use mathlib.Core.Option.{Option, none, some}
-use Rattle.octets.specs.Outcome.{Outcome, refused, gives, then, need, given}
+use Rattle.octets.specs.Outcome.{Outcome, refused, gives, isGood, then, need, given}
 
 module _ {A : Type 0} where
   pub need-gives : (t : Bool) (n : ℕ) (o : Outcome A) (a : A) → need t n o ≡ gives a → (t ≡ true) × (o ≡ gives a)
@@ -20,6 +20,15 @@ module _ {A : Type 0} where
 -- an answer is given once
 pub gives-once : {A : Type 0} (a b : A) → gives a ≡ gives b → a ≡ b
 gives-once a b e = cc
+
+-- the answer, where there is one
+pub record Given {A : Type 0} (o : Outcome A) : Type 0 where
+  pub it : A
+  pub is : o ≡ gives it
+
+pub good-gives : {A : Type 0} (o : Outcome A) → isGood o ≡ true → Given o
+good-gives (gives a) e = record { it = a; is = refl }
+good-gives (refused n) e = absurd (false≢true e)
 
 pub record Gave {A B : Type 0} (o : Outcome A) (f : A → Outcome B) (b : B) : Type 0 where
   pub it : A

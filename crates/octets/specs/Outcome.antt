@@ -1,7 +1,7 @@
 -- What a call gives: one of 01's refusal numbers, or its answer; and the links of a chain of refusals.
 -- Assumes nothing.
 use Prim.Native.Nat.{ℕ}
-use mathlib.Core.Bool.{Bool, cond}
+use mathlib.Core.Bool.{Bool, true, false, cond}
 use mathlib.Core.Option.{Option, none, some}
 
 pub data Outcome (A : Type 0) : Type 0 where
@@ -12,6 +12,11 @@ pub data Outcome (A : Type 0) : Type 0 where
 abbrev pub refusalOf : {A : Type 0} → Outcome A → ℕ
 refusalOf (refused n) = n
 refusalOf (gives a) = 0
+
+-- whether there is an answer
+abbrev pub isGood : {A : Type 0} → Outcome A → Bool
+isGood (gives a) = true
+isGood (refused n) = false
 
 -- the next step, where the one before gave an answer: "A refusal by a lower step is handed up as it is"
 abbrev pub then : {A B : Type 0} → Outcome A → (A → Outcome B) → Outcome B

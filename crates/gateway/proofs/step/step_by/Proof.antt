@@ -7,7 +7,7 @@ use native.Mathlib.Omega.{arith}
 use lib.ListN.{length, take, drop, length-take, length-drop}
 use lib.Seq.{length-take-le}
 use borrow.Author.Needs.{needs}
-use Rattle.octets.specs.Outcome.{Outcome, refused, gives}
+use Rattle.octets.specs.Outcome.{Outcome, refused, gives, isGood}
 use Rattle.headers.specs.Block.{printed}
 use Rattle.scgi.specs.Grammar.{netstring}
 use Rattle.http.specs.Head.{headOf, headOutcome}
@@ -16,7 +16,6 @@ use Rattle.http.specs.Claims.{HeadWithin}
 use Rattle.http.proofs.Claims.{heads-hold}
 use Rattle.lent.specs.Lent.{Lent}
 use Rattle.mounts.specs.Mounts.{Mount, routeOf}
-use Rattle.mounts.specs.Blocks.{isGood}
 use Rattle.mounts.specs.Search.{mountOutcome}
 use Rattle.lent.specs.Claims.{Accepted}
 use Rattle.lent.specs.Places.{settingsAt}

@@ -3,7 +3,7 @@
 use mathlib.Core.Path.{_≡_, sym, _∙_}
 use mathlib.Core.Bool.{true}
 use borrow.Author.Tests.{not-true, not-false}
-use Rattle.mounts.specs.Blocks.{isGood}
+use Rattle.octets.specs.Outcome.{isGood}
 use Rattle.mounts.specs.Mounts.{mountsOf}
 use Rattle.lent.proofs.CheckSteps.{wrong-mounts, wrong-settings, all-lent}
 use borrow.Author.Needs.{needs}
