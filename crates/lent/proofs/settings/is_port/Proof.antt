@@ -1,7 +1,7 @@
 -- `lent::settings::is_port` meets its contract.
 -- Assumes nothing.
 use mathlib.Core.Path.{_≡_, sym, ap, _∙_}
-use Prim.Native.Nat.{_<_}
+use Prim.Native.Nat.{ℕ, _≤_, _<_}
 use native.Mathlib.Omega.{arith}
 use mathlib.Core.Bool.{_&&_}
 use lib.Dec.{leb}
@@ -46,11 +46,15 @@ returns-3 c =
     let e = c .before .before .before in
     sym (no-number (e .before .before .before .before .args .v .now) (some-bytes (e .before .before)) (e .if2 .left) (sym (c .before .before .read .ensures) ∙ ap numberRead (c .enum-told .given .1)))
 
+-- a number above 0 is a port's where it is not above the largest
+above-zero : (k : ℕ) → 1 ≤ k → leb 1 k && leb k 65535 ≡ leb k 65535
+above-zero k h = rw (le-leb 1 k h)
+
 returns-4 : tie.Need-returns-4
 returns-4 c = sym (number (c .before) ∙ rw (lt-leb 1 _ (c .if3 .taken)))
 
 returns-5 : tie.Need-returns-5
-returns-5 c = sym (number (c .before) ∙ rw (le-leb 1 _ (c .if3 .left)))
+returns-5 c = sym (number (c .before) ∙ above-zero _ (c .if3 .left))
 
 pub is-port-spec : {M : Type 1} → statement M
 is-port-spec =

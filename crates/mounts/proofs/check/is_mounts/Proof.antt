@@ -17,8 +17,9 @@ good :
     → (let b = c .before .before .before .before .before .before .before .before .before .args .block .now in
     (lacksRoom 4096 64 b ≡ false) × BlockGood 4096 b)
 good c =
-    blocks-told .good 4096 64 _ _
-    (ap storingOutcome (sym (c .before .before .before .s .given .1 ∙ ap Done (c .enum-told2 .given .1))) ∙ c .before .before .before .before .before .before .store-block .ensures .answer)
+    let b = c .before .before .before .before .before .before .before .before .before .args .block .now in
+    let e = c .before .before .before .s .given .1 ∙ ap Done (c .enum-told2 .given .1) in
+    blocks-told .good 4096 64 b _ (ap storingOutcome (sym e) ∙ c .before .before .before .before .before .before .store-block .ensures .answer)
 
 slice-aggregate-store-block : tie.Need-slice-aggregate-store-block
 slice-aggregate-store-block c = search needs
