@@ -1,14 +1,13 @@
 -- Which numbers the step can give.
 -- Assumes nothing.
 use Prim.Native.Nat.{ℕ, _-_}
-use mathlib.Core.Path.{_≡_, refl, ap}
+use mathlib.Core.Path.{refl}
 use mathlib.Core.List.{List, [], _∷_}
 use lib.Dec.{leb}
 use lib.ListN.{length, take, drop}
-use Rattle.octets.specs.Outcome.{Outcome, refused, gives}
-use Rattle.octets.specs.Kinds.{oneOf}
+use Rattle.octets.specs.Outcome.{Outcome, refused}
 use Rattle.octets.specs.Scan.{allOf}
-use Rattle.octets.proofs.Refusals.{Refuses, with-number, not-refused, number-of, refuses-within, refuses-then, refuses-need, refuses-given}
+use Rattle.octets.proofs.Refusals.{Refuses, not-refused, number-of, refuses-within, refuses-only, refuses-then, refuses-need, refuses-given}
 use Rattle.http.specs.Head.{headOf}
 use Rattle.http.proofs.Claims as Http
 use Rattle.mounts.specs.Mounts.{mountOf}
@@ -34,11 +33,7 @@ unfolding bodyOf
 body-numbers most n s = refuses-need (leb n most) 9 refl (refuses-need (leb n (length s)) 1 refl not-refused)
 
 lent-numbers : (facts site mounts : List ℕ) → Refuses stepNumbers (lentOf facts site mounts)
-lent-numbers facts site mounts = by (lentOf facts site mounts) refl
-  where
-    by : (o : Outcome Lent) → lentOf facts site mounts ≡ o → Refuses stepNumbers o
-    by (gives l) e = not-refused
-    by (refused n) e = with-number (ap (oneOf stepNumbers) (lent-number facts site mounts n e))
+lent-numbers facts site mounts = refuses-only (lentOf facts site mounts) 20 refl (lent-number facts site mounts)
 
 forward-numbers : (lent : Outcome Lent) → Refuses stepNumbers lent → (http : List ℕ) → Refuses stepNumbers (forwardOf lent http)
 unfolding forwardOf

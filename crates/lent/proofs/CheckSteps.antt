@@ -11,18 +11,17 @@ use lib.ListN.{length}
 use borrow.Author.Tests.{leb-true, le-ltb}
 use Rattle.octets.specs.Text.{bytes}
 use Rattle.octets.specs.Outcome.{Outcome, refused, gives, isGood, then, given}
-use Rattle.octets.specs.Kinds.{oneOf}
 use Rattle.octets.specs.Lists.{isNil}
 use Rattle.octets.proofs.Bools.{and-false}
 use Rattle.octets.proofs.Outcomes.{Given as Answer, good-gives, gives-once, then-gives}
-use Rattle.octets.proofs.Refusals.{Refuses, with-number, not-refused, only-number, refuses-then, refuses-need, refuses-given}
+use Rattle.octets.proofs.Refusals.{Refuses, with-number, not-refused, only-number, refuses-only, refuses-then, refuses-need, refuses-given}
 use Rattle.headers.specs.Block.{Header, headersOf}
 use Rattle.headers.specs.Lookup.{valueIn}
 use Rattle.headers.proofs.Claims.{headers-few, places-inside}
 use Rattle.mounts.specs.Blocks.{blockOf, BlockGood, manyFor, lacksRoom, storedOf}
 use Rattle.mounts.specs.Mounts.{Mount, mountsOf}
 use Rattle.mounts.proofs.Claims.{blocks-hold, blocks-told, mounts-number}
-use Rattle.lent.specs.Settings.{Settings, filled, orIn, sought, isPort, portIn, authOf, settingsOf}
+use Rattle.lent.specs.Settings.{Settings, filled, orIn, sought, isPort, authOf, settingsOf}
 use Rattle.lent.specs.Lent.{Lent, lentOf}
 use Rattle.lent.specs.Places.{settingsAt, FactInside, AuthInside, SettingsInside, factPart, FactHeld, AuthHeld, SettingsHeld, SettingsFound}
 use Rattle.lent.specs.Check.{LentFound, lacksEither, LentTried}
@@ -132,11 +131,6 @@ always-room n m facts site mounts f h g =
 
 -- Which number the answers have.
 
--- a step that refuses with 20 alone, by a claim that says so
-only-20 : {A : Type 0} (o : Outcome A) → ((n : ℕ) → o ≡ refused n → n ≡ 20) → Refuses (20 ∷ []) o
-only-20 (gives a) h = not-refused
-only-20 (refused n) h = with-number (ap (oneOf (20 ∷ [])) (h n refl))
-
 filled-refuses : (v : Option (List ℕ)) → Refuses (20 ∷ []) (filled v)
 filled-refuses v = refuses-then (refuses-given v 20 refl) (λ w. refuses-need (not (isNil w)) 20 refl not-refused)
 
@@ -161,9 +155,9 @@ pub lent-number : LentNumber
 unfolding lentOf
 lent-number facts site mounts n e =
     only-number n 20
-    (refuses-then (only-20 (blockOf 1024 facts) (blocks-hold .number 1024 facts)) (λ fs.
-    refuses-then (only-20 (blockOf 1024 site) (blocks-hold .number 1024 site)) (λ ss.
-    refuses-then (only-20 (mountsOf mounts) (mounts-number mounts)) (λ ms.
+    (refuses-then (refuses-only (blockOf 1024 facts) 20 refl (blocks-hold .number 1024 facts)) (λ fs.
+    refuses-then (refuses-only (blockOf 1024 site) 20 refl (blocks-hold .number 1024 site)) (λ ss.
+    refuses-then (refuses-only (mountsOf mounts) 20 refl (mounts-number mounts)) (λ ms.
     refuses-then (settings-refuse fs ss) (λ s. not-refused)))))
     e
 

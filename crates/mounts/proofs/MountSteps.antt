@@ -1,7 +1,6 @@
 -- Laws of the check of mounts, from header to header.
 -- Assumes nothing.
 use Prim.Native.Nat.{ℕ, _+_, _-_, _*_, _≤_, _<_}
-use Prim.{absurd}
 use mathlib.Core.Path.{_≡_, refl, sym, ap, _∙_}
 use mathlib.Core.Bool.{Bool, true, false, _&&_}
 use mathlib.Core.List.{List, [], _∷_, _++_}
@@ -17,7 +16,6 @@ use Rattle.octets.proofs.Bools.{and-left, and-right}
 use Rattle.octets.proofs.Lists.{part-first, part-last}
 use Rattle.octets.proofs.Outcomes.{given-gives, gives-once, then-gives}
 use Rattle.headers.specs.Block.{Header, names, headersOf, paired, parsed, wellFormed, headerIn, headerEnds, headerOutcome, HeaderFound}
-use Rattle.headers.specs.Claims.{Headed}
 use Rattle.headers.specs.declared.block.HeaderPlace.{HeaderPlace}
 use Rattle.headers.specs.declared.block.HeaderPlace.the-variants.{At, Refused}
 use Rattle.headers.proofs.Claims.{well-formed-headed, header-parses}

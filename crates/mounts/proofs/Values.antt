@@ -1,6 +1,6 @@
 -- Laws of a mount's value, by the place of its first `;`.
 -- Assumes nothing.
-use Prim.Native.Nat.{ℕ, zero, suc, _+_, _*_, _-_, _≤_, _<_}
+use Prim.Native.Nat.{ℕ, suc, _+_, _*_, _-_, _≤_, _<_}
 use Prim.{absurd}
 use mathlib.Core.Path.{_≡_, refl, sym, ap, _∙_}
 use mathlib.Core.Bool.{Bool, true, false, cond, not}
@@ -11,7 +11,7 @@ use lib.Dec.{eqb, leb, ltb}
 use lib.ListN.{length, take, drop}
 use lib.Seq.{take-length, length-take-le}
 use borrow.Author.Tests.{eqb-true, le-leb, lt-leb, leb-true, ltb-true, ltb-false}
-use Rattle.octets.specs.Outcome.{Outcome, refused, gives, then, need, given}
+use Rattle.octets.specs.Outcome.{refused, gives, then, need, given}
 use Rattle.octets.specs.Kinds.{isDigit, within}
 use Rattle.octets.specs.Parts.{Parts, parted}
 use Rattle.octets.specs.Scan.{run, other}
@@ -20,7 +20,7 @@ use Rattle.octets.proofs.Lists.{from, nil-empty, nil-filled}
 use Rattle.octets.proofs.Outcomes.{need-gives, gives-once, then-gives}
 use Rattle.octets.proofs.Parting.{part-found, part-none}
 use Rattle.octets.proofs.Scans.{run-le}
-use Rattle.mounts.specs.Value.{poolOf, limitBy, limitOf, Value, valueOf}
+use Rattle.mounts.specs.Value.{poolOf, limitBy, limitOf, valueOf}
 
 -- no number has a byte in it that is no digit
 no-number : (x : ℕ) → isDigit x ≡ false → (v : ℕ) (s : List ℕ) → run (other x) s < length s → numberFrom v s ≡ none

@@ -48,6 +48,11 @@ refuses-within {ns} ms a (refused n) h = with-number (among ns ms a n (h n refl)
 refuses-within ms a (gives x) h = not-refused
 
 module _ {ns : List ℕ} where
+  -- a step that is known to refuse with one number alone
+  pub refuses-only : {A : Type 0} (o : Outcome A) (m : ℕ) → oneOf ns m ≡ true → ((n : ℕ) → o ≡ refused n → n ≡ m) → Refuses ns o
+  refuses-only (refused n) m t h = with-number (ap (oneOf ns) (h n refl) ∙ t)
+  refuses-only (gives a) m t h = not-refused
+
   pub refuses-then : {A B : Type 0} {o : Outcome A} {f : A → Outcome B} → Refuses ns o → ((a : A) → Refuses ns (f a)) → Refuses ns (then o f)
   refuses-then (with-number h) k = with-number h
   refuses-then (not-refused {a}) k = k a

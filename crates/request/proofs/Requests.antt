@@ -2,7 +2,6 @@
 -- Assumes nothing.
 use Prim.Native.Nat.{ℕ, _+_, _≤_}
 use mathlib.Core.Path.{_≡_, refl, sym, ap, _∙_}
-use mathlib.Core.Bool.{true}
 use mathlib.Core.List.{List, [], _∷_}
 use native.Mathlib.Omega.{arith}
 use lib.Dec.{eqb, leb, ltb}
@@ -10,13 +9,13 @@ use lib.ListN.{length, take, drop, length-take, length-append}
 use lib.Seq.{take-at}
 use Rattle.octets.specs.Text.{bytes}
 use Rattle.octets.specs.Outcome.{Outcome, refused, gives, then}
-use Rattle.octets.specs.Kinds.{oneOf, isName}
+use Rattle.octets.specs.Kinds.{isName}
 use Rattle.octets.specs.Scan.{allOf}
 use Rattle.octets.specs.Decimal.{numberOf}
 use Rattle.octets.specs.Copy.{over}
 use Rattle.octets.proofs.Lists.{part-take}
 use Rattle.octets.proofs.Outcomes.{gives-once, then-gives}
-use Rattle.octets.proofs.Refusals.{Refuses, with-number, not-refused, number-of, refuses-within, refuses-then, refuses-need, refuses-given}
+use Rattle.octets.proofs.Refusals.{Refuses, with-number, not-refused, number-of, refuses-within, refuses-only, refuses-then, refuses-need, refuses-given}
 use Rattle.http.specs.Lines.{linesOf, lineRun}
 use Rattle.http.specs.RequestLine.{FirstLine, requestLineOf, versionText, linePlaces}
 use Rattle.http.specs.Fields.{Field, fieldsOf, placesOf, fieldsAt, Stored}
@@ -85,17 +84,12 @@ rules-numbers version fs =
     (refuses-then (stated-numbers (valuesOf (bytes "content-length") fs)) (λ n. refuses-need (leb (length (valuesOf (bytes "content-type") fs)) 1) 17 refl not-refused))
     (λ n. refuses-need (eqb (length (valuesOf (bytes "transfer-encoding") fs)) 0) 18 refl not-refused))
 
--- a step that has the one number m
-only : {A : Type 0} (o : Outcome A) (m : ℕ) → oneOf requestNumbers m ≡ true → ((n : ℕ) → o ≡ refused n → n ≡ m) → Refuses requestNumbers o
-only (gives a) m t h = not-refused
-only (refused n) m t h = with-number (ap (oneOf requestNumbers) (h n refl) ∙ t)
-
 request-numbers : (head : List ℕ) → Refuses requestNumbers (requestOf head)
 unfolding requestOf allOf
 request-numbers head =
     refuses-then (refuses-within (12 ∷ 13 ∷ []) refl (requestLineOf (linesOf head .first)) (Http.numbers-hold .line (linesOf head .first)))
-    (λ first. refuses-then (only (targetOf (first .target)) 14 refl (Targets.numbers-hold (first .target)))
-    (λ target. refuses-then (only (fieldsOf isName (linesOf head .others)) 15 refl (Http.numbers-hold .fields isName (linesOf head .others)))
+    (λ first. refuses-then (refuses-only (targetOf (first .target)) 14 refl (Targets.numbers-hold (first .target)))
+    (λ target. refuses-then (refuses-only (fieldsOf isName (linesOf head .others)) 15 refl (Http.numbers-hold .fields isName (linesOf head .others)))
     (λ fields. refuses-then (rules-numbers (first .version) (lowered fields)) (λ n. not-refused))))
 
 pub numbers-hold : NumbersHold
