@@ -2,10 +2,10 @@
 -- Assumes nothing.
 use Prim.Native.Nat.{ℕ}
 use mathlib.Core.Path.{_≡_, refl}
-use mathlib.Core.Bool.{Bool, true, false, false≢true}
+use mathlib.Core.Bool.{Bool, true, false, cond, false≢true}
 use mathlib.Core.List.{List}
 use native.Mathlib.Omega.{arith}
-use lib.Dec.{leb}
+use lib.Dec.{eqb, leb}
 use lib.ListN.{length}
 use Rattle.octets.specs.Outcome.{Outcome, refused, gives, then, need}
 use Rattle.scgi.specs.Read.{readOf}
@@ -13,10 +13,11 @@ use Rattle.scgi.specs.Write.{writeOf, outputAfter}
 use Rattle.headers.specs.Lookup.{lookupOf}
 use Rattle.headers.specs.Setting.{settingOf}
 use Rattle.scgi.specs.Spool.{requestsOf}
-use Rattle.response.specs.Response.{responseOf}
 use Rattle.scgi.proofs.Claims.{numbers-hold}
 use Rattle.headers.proofs.Claims as Headers
-use Rattle.response.proofs.Claims as Response
+use Rattle.editions.specs.Edition.{responseBy}
+use Rattle.editions.specs.declared.edition.Edition.the-variants.{Rfc, Draft}
+use Rattle.editions.proofs.Claims as Editions
 use Rattle.gateway.specs.Step.{stepOf}
 use Rattle.gateway.proofs.Claims as Gateway
 use Rattle.capi.specs.Answer.{fitting, returned}
@@ -25,7 +26,7 @@ use Rattle.capi.specs.Write.{countNumbers, writeGives}
 use Rattle.capi.specs.Find.{partNumbers}
 use Rattle.capi.specs.Setting.{heldNumbers}
 use Rattle.capi.specs.Spool.{spoolNumbers, spoolGives}
-use Rattle.capi.specs.Respond.{answerNumbers}
+use Rattle.capi.specs.Respond.{answerNumbers, toldResponse}
 use Rattle.capi.specs.Forward.{forwardNumbers, gatewayGives}
 use Rattle.capi.specs.Claims.{Given, ZeroGives, ZeroIsGiven, RefusalKeeps}
 
@@ -38,6 +39,15 @@ told f (gives a) h list e = by (leb (length (f a)) (length list)) e
     by true e = record { numbers = f a; is = refl }
     by false e = absurd (omega arith)
 
+-- a response is refused with 20, or with a number of its edition
+told-not-0 : (n : ℕ) (m s : List ℕ) → toldResponse n m s ≡ refused 0 → ⊥
+told-not-0 n m s = by (eqb n 0) (eqb n 1)
+  where
+    by : (t u : Bool) → then (cond t (gives Rfc) (cond u (gives Draft) (refused 20))) (λ e. responseBy e m s) ≡ refused 0 → ⊥
+    by true u e = false≢true (Editions.numbers-hold Rfc m s 0 e)
+    by false true e = false≢true (Editions.numbers-hold Draft m s 0 e)
+    by false false e = let z : _≡_ {A = ℕ} 20 0 = cc in omega arith
+
 pub zero-is-given : ZeroIsGiven
 zero-is-given =
     record {
@@ -46,7 +56,7 @@ zero-is-given =
       find = λ b n. told partNumbers (lookupOf b n) (λ e. omega (arith, Headers.numbers-hold .lookup b n 0 e));
       setting = λ f s n. told heldNumbers (settingOf f s n) (λ e. omega (arith, Headers.numbers-hold .setting f s n 0 e));
       spool = λ s room. told spoolNumbers (gives (requestsOf s room)) (λ e. let z : _≡_ {A = ℕ} 0 1 = cc in omega arith);
-      respond = λ s. told answerNumbers (responseOf s) (λ e. false≢true (Response.numbers-hold s 0 e));
+      respond = λ n m s. told answerNumbers (toldResponse n m s) (told-not-0 n m s);
       gateway = λ f s m h room. told forwardNumbers (stepOf f s m h room) (λ e. false≢true (Gateway.numbers-hold f s m h room 0 e));
     }
 

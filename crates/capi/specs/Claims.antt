@@ -29,7 +29,7 @@ pub record ZeroIsGiven : Type 0 where
   pub find : (block name : List ℕ) → ZeroGives (findGives block name)
   pub setting : (facts site name : List ℕ) → ZeroGives (settingGives facts site name)
   pub spool : (bytes : List ℕ) (room : ℕ) → ZeroGives (spoolGives bytes room)
-  pub respond : (script : List ℕ) → ZeroGives (responseGives script)
+  pub respond : (edition : ℕ) (method script : List ℕ) → ZeroGives (responseGives edition method script)
   pub gateway : (facts site mounts http : List ℕ) (room : ℕ) → ZeroGives (gatewayGives facts site mounts http room)
 
 -- where a call does not return 0, nothing that was lent is changed: "Every refusal .. changes no byte of the output"

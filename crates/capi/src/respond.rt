@@ -1,11 +1,30 @@
 // Script responses.
 ghost use mathlib.Core.Path.{_≡_};
 ghost use Rattle.capi.specs.Answer.{Answered};
-ghost use Rattle.capi.specs.Respond.{actionNumber, responseGives};
+ghost use Rattle.capi.specs.Respond.{editionOf, toldOutcome, actionNumber, responseGives};
 use crate::answer::give;
-use response::respond::respond;
+use editions::edition::Edition;
+use editions::edition::respond_by;
 use response::table::Action;
 use response::table::Response;
+
+pub enum Told {
+    Known(Edition),
+    Unknown,
+}
+
+// The edition that a number names.
+fn edition_of(n: u64) -> Told
+    ensures { λ r. ⌜ toldOutcome r ≡ editionOf n ⌝ }
+{
+    if n == 0 {
+        return Told::Known(Edition::Rfc);
+    }
+    if n == 1 {
+        return Told::Known(Edition::Draft);
+    }
+    Told::Unknown
+}
 
 // The number of an action.
 fn action_number(a: Action) -> u64
@@ -19,13 +38,18 @@ fn action_number(a: Action) -> u64
     }
 }
 
-// What a script's whole output asks of the server. Gives the action, 1 serve, 2 redirect, 3 redirect with document, 4 document; the status;
-// Location start and length; body start and length.
+// What a script's whole output asks of the server, by an edition, 0 RFC 3875, 1 the draft of 1996, for a request with the method. Gives the
+// action, 1 serve, 2 redirect, 3 redirect with document, 4 document; the status; Location start and length; body start and length.
 #[no_mangle]
-pub extern "C" fn oy_response(script: &[u8], answer: &mut [u64]) -> u64
-    ensures { λ r. ⌜ Answered (responseGives (now (script .entry))) (now (answer .entry)) (now (answer .exit)) r ⌝ }
+pub extern "C" fn oy_response(edition: u64, method: &[u8], script: &[u8], answer: &mut [u64]) -> u64
+    ensures { λ r. ⌜ Answered (responseGives edition (now (method .entry)) (now (script .entry))) (now (answer .entry)) (now (answer .exit)) r ⌝ }
 {
-    let r = respond(script);
+    let told = edition_of(edition);
+    let Told::Known(e) = told else {
+        // "settings .. wrong": a number that names no edition is the caller's fault.
+        return 20;
+    };
+    let r = respond_by(e, method, script);
     let Response::Answer {
         action,
         status,

@@ -2,21 +2,21 @@
 -- Assumes nothing.
 use Prim.Native.Nat.{ℕ, _+_, _-_, _≤_}
 use mathlib.Core.Path.{_≡_, refl, sym, ap, _∙_}
-use mathlib.Core.Bool.{Bool, true, false, cond, not, _&&_, _||_}
+use mathlib.Core.Bool.{Bool, true, false, cond, not, _&&_, _||_, false≢true}
 use mathlib.Core.List.{List, [], _∷_}
 use mathlib.Core.Option.{Option, none, some}
 use native.Mathlib.Omega.{arith}
 use lib.Dec.{eqb}
-use lib.ListN.{length, take}
+use lib.ListN.{length}
 use borrow.Author.Tests.{eqb-true, le-leb}
 use Rattle.octets.specs.Text.{bytes}
 use Rattle.octets.specs.Outcome.{Outcome, refused, gives, then, need, given}
-use Rattle.octets.specs.Kinds.{oneOf, within}
+use Rattle.octets.specs.Kinds.{within}
 use Rattle.octets.specs.Lists.{All, no-more, _&_}
 use Rattle.octets.proofs.Bools.{and-left, and-right, or-true}
 use Rattle.octets.proofs.Outcomes.{need-gives, then-gives}
 use Rattle.targets.specs.Target.{targetOf}
-use Rattle.response.specs.Head.{Value, Named, Head, headWith, linesAt, headOf}
+use Rattle.response.specs.Head.{Value, Named, Head, headOf}
 use Rattle.response.specs.Status.{statusOf, statedIn}
 use Rattle.response.specs.Location.{isLocal, accepted, isElsewhere, filled, locationRight}
 use Rattle.response.specs.Table.{
@@ -47,7 +47,7 @@ use Rattle.response.specs.Table.{
   scriptOf,
 }
 use Rattle.response.specs.Response.{named, eachOnce, firstValue, isThere, judgedHead, responseOf}
-use Rattle.response.specs.Claims.{howMany, rowsThatFit, rowOf, statusFits, locationIn, Within}
+use Rattle.response.specs.Claims.{howMany, rowsThatFit, rowOf, statusFits, hasLocation, locationIn, Within}
 use Rattle.response.specs.declared.table.Action.{Action}
 use Rattle.response.specs.declared.table.Action.the-variants.{Serve, Redirect, RedirectDocument, Document}
 use Rattle.response.proofs.Statuses.{status-within}
@@ -174,6 +174,41 @@ module _ (s : List ℕ) (a : Answer) (r : Answered s a) where
       by none p e f = cc
       by (some v) p e f = rw (value-is v p) (target v (isLocal (v .bytes)) e f)
 
+-- whether there is a Location, by where it leads
+there-goes : (o : Option Value) → isThere o ≡ not (noLocation (goesTo o))
+there-goes none = refl
+there-goes (some v) = by (isLocal (v .bytes))
+  where
+    by : (t : Bool) → true ≡ not (noLocation (cond t local elsewhere))
+    by true = refl
+    by false = refl
+
+elsewhere-leads : (g : Goes) → otherLocation g ≡ true → not (noLocation g) ≡ true
+elsewhere-leads nowhere e = absurd (false≢true e)
+elsewhere-leads local e = refl
+elsewhere-leads elsewhere e = refl
+
+-- .. and by the row
+row-leads : (act : Action) (x : Script) → rowOf act x ≡ true → not (noLocation (x .goes)) ≡ hasLocation act
+row-leads Serve x f =
+    by (x .goes) (and-left (localLocation (x .goes)) _ (and-left (localLocation (x .goes) && _) (noBody x) f))
+  where
+    by : (g : Goes) → localLocation g ≡ true → not (noLocation g) ≡ true
+    by nowhere e = absurd (false≢true e)
+    by local e = refl
+    by elsewhere e = refl
+row-leads Redirect x f =
+    elsewhere-leads (x .goes)
+    (and-left (otherLocation (x .goes)) _ (and-left (otherLocation (x .goes) && _) _ (and-left (otherLocation (x .goes) && _ && _) (noBody x) f)))
+row-leads RedirectDocument x f = elsewhere-leads (x .goes) (and-left (otherLocation (x .goes)) _ (and-left (otherLocation (x .goes) && _) _ f))
+row-leads Document x f = ap not (and-left (noLocation (x .goes)) (x .typed) f)
+
+pub tells-location :
+    (s : List ℕ) (h : Head) (a : Answer) → headOf s ≡ gives h → Answered s a
+    → isThere (firstValue (named (bytes "location") (h .fields))) ≡ hasLocation (a .action)
+tells-location s h a p r =
+    rw (same-head s h (r .head) p (r .is)) (there-goes (location s a r) ∙ row-leads (a .action) (scriptAt s (r .head) (r .status)) (r .row .fits))
+
 -- The status.
 
 pub stated-range : (o : Option Value) (n : ℕ) → statedIn o ≡ gives (some n) → within 200 599 n ≡ true
@@ -283,53 +318,3 @@ no-row x = by (serves x) (redirects x) (redirectsWithDocument x) (hasDocument x)
     by false false true d e = cc
     by false false false true e = cc
     by false false false false e = refl
-
--- The numbers.
-
-abbrev Known : ℕ → Type 0
-Known n = oneOf (24 ∷ 25 ∷ []) n ≡ true
-
-known : {A : Type 0} (n k : ℕ) → Known k → _≡_ {A = Outcome A} (refused k) (refused n) → Known n
-known n k h e = let z : k ≡ n = cc in rw (sym z) h
-
-need-known : {A : Type 0} (n : ℕ) (t : Bool) (o : Outcome A) → (o ≡ refused n → Known n) → need t 25 o ≡ refused n → Known n
-need-known n true o h e = h e
-need-known n false o h e = known n 25 refl e
-
-table-known : (n : ℕ) (x : Script) → tableOf x ≡ refused n → Known n
-unfolding tableOf
-table-known n x = by (serves x) (redirects x) (redirectsWithDocument x) (hasDocument x)
-  where
-    by :
-        (p q r d : Bool)
-        → cond p (answerFor x Serve)
-        (cond q (answerFor x Redirect) (cond r (answerFor x RedirectDocument) (cond d (answerFor x Document) (refused 25))))
-        ≡ refused n → Known n
-    by true q r d e = cc
-    by false true r d e = cc
-    by false false true d e = cc
-    by false false false true e = cc
-    by false false false false e = known n 25 refl e
-
-status-known : {A : Type 0} (n : ℕ) (o : Option Value) (f : Option ℕ → Outcome A) → ((t : Option ℕ) → f t ≡ refused n → Known n) → then (statedIn o) f ≡ refused n → Known n
-status-known n none f h e = h none e
-status-known {A} n (some v) f h e = by (statusOf (v .bytes)) e
-  where
-    by : (o : Option ℕ) → then (then (given o 25) (λ m. gives (some m))) f ≡ refused n → Known n
-    by none q = known n 25 refl q
-    by (some m) q = h (some m) q
-
-pub numbers : (s : List ℕ) (n : ℕ) → responseOf s ≡ refused n → Known n
-unfolding responseOf headOf
-numbers s n = by (headWith 64 (linesAt 0 (take 8192 s)))
-  where
-    by : (o : Option Head) → then (given o 24) (λ h. judgedHead s h) ≡ refused n → Known n
-    by none e = known n 24 refl e
-    by (some h) e =
-        let fs = h .fields in
-        let c = firstValue (named (bytes "content-type") fs) in
-        let l = firstValue (named (bytes "location") fs) in
-        need-known n (eachOnce fs) _
-        (need-known n (filled c) _
-        (need-known n (filled l && locationRight l) _
-        (status-known n (firstValue (named (bytes "status") fs)) (λ t. tableOf (scriptAt s h t)) (λ t. table-known n (scriptAt s h t))))) e

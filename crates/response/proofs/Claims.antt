@@ -1,7 +1,8 @@
 -- Each claim of specs/Claims.antt, proved. Crates above cite this file and no other of this folder.
 -- Assumes nothing.
-use Rattle.response.specs.Claims.{TableHolds, NumbersHold, StatusHolds, DocumentIs200, ServedIsTarget, LocationStands, PlacesWithin, StreamSettles}
+use Rattle.response.specs.Claims.{TableHolds, NumbersHold, ThenIs25, StatusHolds, DocumentIs200, ServedIsTarget, ActionTellsLocation, LocationStands, PlacesWithin, StreamSettles}
 use Rattle.response.proofs.Answers as Answers
+use Rattle.response.proofs.Numbers as Numbers
 use Rattle.response.proofs.Rows as Rows
 use Rattle.response.proofs.Streams as Streams
 
@@ -19,7 +20,10 @@ table-holds =
     }
 
 pub numbers-hold : NumbersHold
-numbers-hold = Answers.numbers
+numbers-hold = Numbers.numbers-hold
+
+pub then-is-25 : ThenIs25
+then-is-25 = Numbers.then-is-25
 
 pub status-holds : StatusHolds
 status-holds =
@@ -33,6 +37,9 @@ document-is-200 s h a p q e act = Answers.no-status s h a p q (Answers.answered 
 
 pub served-is-target : ServedIsTarget
 served-is-target s a e act = Answers.served s a (Answers.answered s a e) act
+
+pub action-tells-location : ActionTellsLocation
+action-tells-location s h a p e = Answers.tells-location s h a p (Answers.answered s a e)
 
 pub location-stands : LocationStands
 location-stands s h v a p q e = Answers.location-stands s h v a p q (Answers.answered s a e)

@@ -10,6 +10,7 @@ pub mod Tables
 pub mod RespondSteps
 pub mod Worked
 pub mod Answers
+pub mod Numbers
 pub mod Rows
 pub mod Streams
 pub mod Claims

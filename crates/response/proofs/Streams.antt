@@ -31,23 +31,9 @@ use Rattle.response.specs.Table.{
   lengthOr0,
 }
 use Rattle.response.specs.Response.{named, eachOnce, firstValue, isThere, judgedHead, responseOf}
-use Rattle.response.specs.Claims.{Settled, settledOf, settling, StreamSettles}
+use Rattle.response.specs.Claims.{settled, settling, StreamSettles}
 use Rattle.response.specs.declared.table.Action.the-variants.{Serve, Redirect, RedirectDocument, Document}
 use Rattle.response.proofs.Lies.{front-in}
-
--- an answer without the length of its body
-abbrev settled : Outcome Answer → Outcome Settled
-settled o =
-    then o
-    (λ a.
-    gives
-    (record {
-      action = a .action;
-      status = a .status;
-      locationStart = a .locationStart;
-      locationLength = a .locationLength;
-      bodyStart = a .bodyStart;
-    }))
 
 -- steps before that do not look at the body
 need-settles : (t : Bool) (n : ℕ) (o p : Outcome Answer) → settled o ≡ settled p → settled (need t n o) ≡ settled (need t n p)
@@ -96,7 +82,7 @@ module _ (s : List ℕ) where
   unfolding headOf
   same-head = rw (take-take 8192 settling s (omega arith))
 
-  front-settles : settledOf s ≡ settledOf front
+  front-settles : settled (responseOf s) ≡ settled (responseOf front)
   unfolding responseOf
   front-settles =
       then-settles (headOf s) (judgedHead s) (judgedHead front)
@@ -115,4 +101,4 @@ module _ (s : List ℕ) where
       ∙ ap (λ (o : Outcome Head). settled (then o (judgedHead front))) (sym same-head)
 
 pub stream-settles : StreamSettles
-stream-settles s t e = front-settles s ∙ ap settledOf e ∙ sym (front-settles t)
+stream-settles s t e = front-settles s ∙ ap (λ (x : List ℕ). settled (responseOf x)) e ∙ sym (front-settles t)

@@ -2,7 +2,7 @@
 -- Assumes nothing.
 use Prim.Native.Nat.{ℕ, suc, _+_, _≤_}
 use mathlib.Core.Path.{_≡_}
-use mathlib.Core.Bool.{Bool, true, cond, _||_}
+use mathlib.Core.Bool.{Bool, true, false, cond, _||_}
 use mathlib.Core.List.{List, [], _∷_}
 use mathlib.Core.Option.{none, some}
 use lib.Dec.{eqb}
@@ -14,7 +14,7 @@ use Rattle.targets.specs.Target.{targetOf}
 use Rattle.response.specs.Head.{Value, Head, headOf}
 use Rattle.response.specs.Location.{accepted}
 use Rattle.response.specs.Table.{Answer, Script, serves, redirects, redirectsWithDocument, hasDocument, redirecting, tableOf}
-use Rattle.response.specs.Response.{named, firstValue, responseOf}
+use Rattle.response.specs.Response.{named, firstValue, isThere, responseOf}
 use Rattle.response.specs.declared.table.Action.{Action}
 use Rattle.response.specs.declared.table.Action.the-variants.{Serve, Redirect, RedirectDocument, Document}
 
@@ -66,6 +66,10 @@ pub record TableHolds : Type 0 where
 abbrev pub NumbersHold : Type 0
 NumbersHold = (s : List ℕ) (n : ℕ) → responseOf s ≡ refused n → oneOf (24 ∷ 25 ∷ []) n ≡ true
 
+-- "Then, or 25": where the head is right, no other number is given
+abbrev pub ThenIs25 : Type 0
+ThenIs25 = (s : List ℕ) (h : Head) (n : ℕ) → headOf s ≡ gives h → responseOf s ≡ refused n → n ≡ 25
+
 -- "0 for serving a target", "redirect 302", "Status 301, 302, 303, 307 or 308", "200 to 599"
 abbrev pub statusFits : Action → ℕ → Bool
 statusFits Serve n = eqb n 0
@@ -92,6 +96,19 @@ locationIn s a = take (a .locationLength) (drop (a .locationStart) s)
 abbrev pub ServedIsTarget : Type 0
 ServedIsTarget = (s : List ℕ) (a : Answer) → responseOf s ≡ gives a → a .action ≡ Serve → accepted (targetOf (locationIn s a)) ≡ true
 
+-- "no Location" stands in one row of the table alone
+abbrev pub hasLocation : Action → Bool
+hasLocation Serve = true
+hasLocation Redirect = true
+hasLocation RedirectDocument = true
+hasLocation Document = false
+
+-- so an action tells whether the head has a Location
+abbrev pub ActionTellsLocation : Type 0
+ActionTellsLocation =
+    (s : List ℕ) (h : Head) (a : Answer) → headOf s ≡ gives h → responseOf s ≡ gives a
+    → isThere (firstValue (named (bytes "location") (h .fields))) ≡ hasLocation (a .action)
+
 -- "start and length of the Location value": its bytes stand there
 abbrev pub LocationStands : Type 0
 LocationStands =
@@ -114,9 +131,9 @@ pub record Settled : Type 0 where
   pub locationLength : ℕ
   pub bodyStart : ℕ
 
-abbrev pub settledOf : List ℕ → Outcome Settled
-settledOf s =
-    then (responseOf s)
+abbrev pub settled : Outcome Answer → Outcome Settled
+settled o =
+    then o
     (λ a.
     gives
     (record {
@@ -134,4 +151,4 @@ abbrev pub settling : ℕ
 settling = 8193
 
 abbrev pub StreamSettles : Type 0
-StreamSettles = (s t : List ℕ) → take settling s ≡ take settling t → settledOf s ≡ settledOf t
+StreamSettles = (s t : List ℕ) → take settling s ≡ take settling t → settled (responseOf s) ≡ settled (responseOf t)

@@ -1,21 +1,55 @@
 -- `capi::respond::oy_response` meets its contract.
 -- Assumes nothing.
-use mathlib.Core.Path.{sym, ap, _∙_}
+use Prim.Native.Nat.{ℕ}
+use mathlib.Core.Path.{_≡_, sym, ap, _∙_}
+use mathlib.Core.List.{List}
+use Rattle.octets.specs.Outcome.{Outcome, gives, then}
 use Rattle.response.specs.Table.{responseOutcome}
-use Rattle.capi.specs.Respond.{answerNumbers}
+use Rattle.editions.specs.Edition.{responseBy}
+use Rattle.editions.specs.declared.edition.Edition.{Edition}
+use Rattle.capi.specs.Respond.{editionOf, toldOutcome, answerNumbers, toldResponse}
 use Rattle.capi.proofs.Answers.{refusal, gave}
 use borrow.Author.Needs.{needs}
 use Rattle.capi.proofs.respond.oy_response.Statement.{statement}
 use Rattle.capi.proofs.respond.oy_response.Tie as tie
 
-respond-requires : tie.Need-respond-requires
-respond-requires c κs = search needs
+-- what the call makes of the edition's number
+told-by : (n : ℕ) (m s : List ℕ) {o : Outcome Edition} → editionOf n ≡ o → toldResponse n m s ≡ then o (λ e. responseBy e m s)
+told-by n m s p = ap (λ (o : Outcome Edition). then o (λ e. responseBy e m s)) p
+
+edition-of-requires : tie.Need-edition-of-requires
+edition-of-requires c κs = search needs
+
+enum-known-told : tie.Need-enum-known-told
+enum-known-told c = search needs
+
+enum-told : tie.Need-enum-told
+enum-told c = search needs
+
+returns : tie.Need-returns
+returns c =
+    let b = c .before .before .before .before .before .before in
+    let unknown = sym (c .before .before .edition-of .ensures) ∙ ap toldOutcome (c .enum-told .given .1) in
+    refusal answerNumbers _ 20 (told-by (b .args .edition) (b .args .method .now) (b .args .script .now) unknown)
+
+respond-by-requires : tie.Need-respond-by-requires
+respond-by-requires c κs = search needs
+
+-- what the response is by the call's definition
+responded :
+    (c : tie.After-respond-by)
+    → (let b = c .before .before .before .before .before .before .before .before in
+    toldResponse (b .args .edition) (b .args .method .now) (b .args .script .now) ≡ responseOutcome (c .respond-by .result))
+responded c =
+    let b = c .before .before .before .before .before .before .before .before in
+    let known = sym (c .before .before .before .before .edition-of .ensures) ∙ ap toldOutcome (c .before .before .told .given .1) in
+    told-by (b .args .edition) (b .args .method .now) (b .args .script .now) known ∙ sym (c .respond-by .ensures)
 
 enum-known-r : tie.Need-enum-known-r
 enum-known-r c = search needs
 
-enum-told : tie.Need-enum-told
-enum-told c = search needs
+enum-told-2 : tie.Need-enum-told-2
+enum-told-2 c = search needs
 
 number-requires : tie.Need-number-requires
 number-requires c κs = search needs
@@ -23,10 +57,10 @@ number-requires c κs = search needs
 cast-result : tie.Need-cast-result
 cast-result c = search needs
 
-returns : tie.Need-returns
-returns c =
-    let e = c .before .enum-told .given .1 in
-    rw (c .number .ensures, e) (refusal answerNumbers _ _ (sym (c .before .before .before .respond .ensures) ∙ ap responseOutcome e))
+returns-2 : tie.Need-returns-2
+returns-2 c =
+    let e = c .before .enum-told2 .given .1 in
+    rw (c .number .ensures, e) (refusal answerNumbers _ _ (responded (c .before .before .before) ∙ ap responseOutcome e))
 
 action-number-requires : tie.Need-action-number-requires
 action-number-requires c κs = search needs
@@ -40,21 +74,28 @@ give-requires c κs = search needs
 same-length : tie.Need-same-length
 same-length c = search needs
 
-returns-2 : tie.Need-returns-2
-returns-2 c = gave answerNumbers (sym (c .before .before .before .before .before .before .before .before .before .respond .ensures) ∙ ap responseOutcome (c .before .before .before .before .before .before .before .r .given .1)) (rw (sym (c .before .before .before .before .before .action-number .ensures)) (c .before .before .give .ensures))
+returns-3 : tie.Need-returns-3
+returns-3 c =
+    let k = c .before .before .before .before .before in
+    let answers = responded (k .before .before .before .before) ∙ ap responseOutcome (k .before .before .r .given .1) in
+    gave answerNumbers answers (rw (sym (k .action-number .ensures)) (c .before .before .give .ensures))
 
 pub oy-response-spec : {M : Type 1} → statement M
 oy-response-spec =
     tie.close
     (tie.spec
-    respond-requires
-    enum-known-r
+    edition-of-requires
+    enum-known-told
     enum-told
+    returns
+    respond-by-requires
+    enum-known-r
+    enum-told-2
     number-requires
     cast-result
-    returns
+    returns-2
     action-number-requires
     slice-aggregate-give
     give-requires
     same-length
-    returns-2)
+    returns-3)
