@@ -74,13 +74,11 @@ static uint64_t *list(size_t len)
 static const char *const example =
     "70:CONTENT_LENGTH|27|SCGI|1|REQUEST_METHOD|POST|REQUEST_URI|/deepthought|,What is the answer to life?";
 
-/* A call over one piece of memory: the reader, or that of script responses. */
-typedef uint64_t one_input(const uint8_t *, size_t, uint64_t *, size_t);
-
-static uint64_t on_text(one_input *call, const char *from, uint64_t *answer, size_t answer_len)
+/* What oy_scgi_read returns for a text. */
+static uint64_t read_text(const char *from, uint64_t *answer, size_t answer_len)
 {
     struct bytes bytes = text(from);
-    uint64_t code = call(bytes.at, bytes.len, answer, answer_len);
+    uint64_t code = oy_scgi_read(bytes.at, bytes.len, answer, answer_len);
     free(bytes.at);
     return code;
 }
@@ -88,19 +86,19 @@ static uint64_t on_text(one_input *call, const char *from, uint64_t *answer, siz
 static void test_read(void)
 {
     uint64_t *answer = list(OY_READ_NUMBERS);
-    CHECK(on_text(oy_scgi_read, "", answer, 5) == OY_CUT);
-    CHECK(on_text(oy_scgi_read, "0", answer, 5) == OY_CUT);
-    CHECK(on_text(oy_scgi_read, "05", answer, 5) == OY_LENGTH);
-    CHECK(on_text(oy_scgi_read, ":", answer, 5) == OY_LENGTH);
-    CHECK(on_text(oy_scgi_read, "16385", answer, 5) == OY_BLOCK_LONG);
-    CHECK(on_text(oy_scgi_read, "0:x", answer, 5) == OY_COMMA);
-    CHECK(on_text(oy_scgi_read, "1:|,", answer, 5) == OY_BLOCK);
-    CHECK(on_text(oy_scgi_read, "0:,", answer, 5) == OY_FIRST);
+    CHECK(read_text("", answer, 5) == OY_CUT);
+    CHECK(read_text("0", answer, 5) == OY_CUT);
+    CHECK(read_text("05", answer, 5) == OY_LENGTH);
+    CHECK(read_text(":", answer, 5) == OY_LENGTH);
+    CHECK(read_text("16385", answer, 5) == OY_BLOCK_LONG);
+    CHECK(read_text("0:x", answer, 5) == OY_COMMA);
+    CHECK(read_text("1:|,", answer, 5) == OY_BLOCK);
+    CHECK(read_text("0:,", answer, 5) == OY_FIRST);
     CHECK(answer[0] == 77 && answer[4] == 77);
-    CHECK(on_text(oy_scgi_read, example, answer, 4) == OY_ROOM);
+    CHECK(read_text(example, answer, 4) == OY_ROOM);
     CHECK(answer[0] == 77 && answer[3] == 77);
-    CHECK(on_text(oy_scgi_read, example, NULL, 0) == OY_ROOM);
-    CHECK(on_text(oy_scgi_read, example, answer, 5) == 0);
+    CHECK(read_text(example, NULL, 0) == OY_ROOM);
+    CHECK(read_text(example, answer, 5) == 0);
     CHECK(answer[OY_READ_BLOCK_START] == 3 && answer[OY_READ_BLOCK_LENGTH] == 70);
     CHECK(answer[OY_READ_BODY_START] == 74 && answer[OY_READ_BODY_LENGTH] == 27 && answer[OY_READ_USED] == 101);
     free(answer);
@@ -317,7 +315,7 @@ static void test_digits(void)
         struct bytes lent;
         sprintf(block, "CONTENT_LENGTH|%0*d|SCGI|1|", OY_MAX_DIGITS + more, 2);
         sprintf(request, "%u:%s,hi", (unsigned)strlen(block), block);
-        CHECK(on_text(oy_scgi_read, request, answer, OY_READ_NUMBERS) == codes[more][0]);
+        CHECK(read_text(request, answer, OY_READ_NUMBERS) == codes[more][0]);
         lent = text(block);
         CHECK(oy_scgi_write(lent.at, lent.len, body.at, body.len, out.at, out.len, answer, OY_WRITE_NUMBERS) == codes[more][1]);
         free(lent.at);
@@ -367,22 +365,79 @@ static void test_text(void)
     CHECK(strcmp(oy_refusal_text(OY_TWICE), "two headers with equal names") == 0);
 }
 
+/* What oy_response returns for texts; an empty method is null. */
+static uint64_t respond(uint64_t edition, const char *method, const char *from, uint64_t *answer, size_t answer_len)
+{
+    struct bytes asked = text(method), script = text(from);
+    uint64_t code = oy_response(edition, asked.at, asked.len, script.at, script.len, answer, answer_len);
+    free(asked.at);
+    free(script.at);
+    return code;
+}
+
 static void test_response(void)
 {
     uint64_t *answer = list(OY_RESPONSE_NUMBERS);
-    CHECK(on_text(oy_response, "", answer, 6) == OY_RESPONSE);
-    CHECK(on_text(oy_response, "\n", answer, 6) == OY_CONTRADICTION);
-    CHECK(on_text(oy_response, "Location: /x\n\n", answer, 5) == OY_ROOM);
+    CHECK(respond(OY_RFC_3875, "GET", "", answer, 6) == OY_RESPONSE);
+    CHECK(respond(OY_RFC_3875, "GET", "\n", answer, 6) == OY_CONTRADICTION);
+    CHECK(respond(OY_RFC_3875, "GET", "Location: /x\n\n", answer, 5) == OY_ROOM);
     CHECK(answer[0] == 77 && answer[5] == 77);
-    CHECK(on_text(oy_response, "Location: /x\n\n", answer, 6) == 0);
+    CHECK(respond(OY_RFC_3875, "GET", "Location: /x\n\n", answer, 6) == 0);
     CHECK(answer[OY_RESPONSE_ACTION] == OY_SERVE && answer[OY_RESPONSE_STATUS] == 0);
     CHECK(answer[OY_RESPONSE_LOCATION_START] == 10 && answer[OY_RESPONSE_LOCATION_LENGTH] == 2);
     CHECK(answer[OY_RESPONSE_BODY_START] == 14 && answer[OY_RESPONSE_BODY_LENGTH] == 0);
-    CHECK(on_text(oy_response, "Location: a:b\n\n", answer, 6) == 0);
+    CHECK(respond(OY_RFC_3875, "GET", "Location: a:b\n\n", answer, 6) == 0);
     CHECK(answer[0] == OY_REDIRECT && answer[1] == 302);
-    CHECK(on_text(oy_response, "Status: 200 OK\r\nContent-Type: text/plain\r\n\r\n42", answer, 6) == 0);
+    CHECK(respond(OY_RFC_3875, "GET", "Status: 200 OK\r\nContent-Type: text/plain\r\n\r\n42", answer, 6) == 0);
     CHECK(answer[0] == OY_DOCUMENT && answer[1] == 200 && answer[2] == 0 && answer[3] == 0);
     CHECK(answer[4] == 44 && answer[5] == 2);
+    free(answer);
+}
+
+static const char *const location = "Location: a:b\n\n";
+static const char *const malformed = "Location: a:b\nno colon\n\n";
+
+/* Under the draft edition a Location is for GET and HEAD alone; under the RFC edition the method is not looked at. */
+static void test_editions(void)
+{
+    static const char *const others[] = {"POST", "get", "GET ", "GETS", "GE", "HEA", "GET|", ""};
+    uint64_t *answer = list(OY_RESPONSE_NUMBERS);
+    size_t i;
+    CHECK(OY_RFC_3875 == 0 && OY_DRAFT_1996 == 1);
+    for (i = 0; i < sizeof others / sizeof others[0]; i++) {
+        answer[0] = 77;
+        CHECK(respond(OY_DRAFT_1996, others[i], malformed, answer, 6) == OY_RESPONSE);
+        CHECK(respond(OY_DRAFT_1996, others[i], location, answer, 6) == OY_CONTRADICTION);
+        CHECK(respond(OY_DRAFT_1996, others[i], location, NULL, 0) == OY_CONTRADICTION);
+        CHECK(respond(OY_RFC_3875, others[i], location, NULL, 0) == OY_ROOM);
+        CHECK(answer[0] == 77);
+        CHECK(respond(OY_RFC_3875, others[i], location, answer, 6) == 0 && answer[0] == OY_REDIRECT);
+        CHECK(respond(OY_DRAFT_1996, others[i], "Content-Type: t\n\nhi", answer, 6) == 0 && answer[0] == OY_DOCUMENT);
+    }
+    CHECK(respond(OY_DRAFT_1996, "GET", location, answer, 5) == OY_ROOM && answer[0] == OY_DOCUMENT);
+    CHECK(respond(OY_DRAFT_1996, "GET", location, answer, 6) == 0);
+    CHECK(answer[0] == OY_REDIRECT && answer[1] == 302 && answer[2] == 10 && answer[3] == 3 && answer[4] == 15 && answer[5] == 0);
+    CHECK(respond(OY_DRAFT_1996, "HEAD", "location: /x\n\n", answer, 6) == 0 && answer[0] == OY_SERVE);
+    CHECK(respond(OY_DRAFT_1996, "GET", "Location: /..\n\n", answer, 6) == OY_CONTRADICTION && answer[0] == OY_SERVE);
+    free(answer);
+}
+
+/* Another edition comes before every other refusal. */
+static void test_no_edition(void)
+{
+    static const uint64_t none[] = {2, 3, 257, (uint64_t)-1};
+    uint64_t *answer = list(OY_RESPONSE_NUMBERS);
+    size_t i;
+    for (i = 0; i < sizeof none / sizeof none[0]; i++) {
+        CHECK(respond(none[i], "GET", location, answer, 6) == OY_LENT);
+        CHECK(respond(none[i], "POST", location, answer, 6) == OY_LENT);
+        CHECK(respond(none[i], "GET", malformed, answer, 6) == OY_LENT);
+        CHECK(respond(none[i], "GET", location, answer, 5) == OY_LENT);
+        CHECK(oy_response(none[i], NULL, 0, NULL, 0, NULL, 0) == OY_LENT);
+    }
+    for (i = 0; i < OY_RESPONSE_NUMBERS; i++)
+        CHECK(answer[i] == 77);
+    CHECK(oy_response(OY_DRAFT_1996, NULL, 0, NULL, 0, NULL, 0) == OY_RESPONSE);
     free(answer);
 }
 
@@ -399,6 +454,8 @@ static void (*const tests[])(void) = {
     test_mount_limit,
     test_text,
     test_response,
+    test_editions,
+    test_no_edition,
 };
 
 int main(void)

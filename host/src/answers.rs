@@ -1,4 +1,4 @@
-//! The numbers that each call stores in its lent list, in their order.
+//! The numbers that each call stores in its lent list, in their order, and the names of those that stand for something.
 
 /// A struct of numbers that is a call's answer: the fields stand in the order of the list.
 macro_rules! answer {
@@ -51,6 +51,10 @@ answer!(
     /// The server's action for a script's output.
     Action, 6: action, status, location_start, location_len, body_start, body_len
 );
+
+/// Editions, which the response reader is told: RFC 3875, and the draft of 1996.
+pub const RFC_3875: u64 = 0;
+pub const DRAFT_1996: u64 = 1;
 
 /// Endings of a spool.
 pub const WHOLE: u64 = 0;

@@ -20,7 +20,7 @@ pub trait Calls {
     fn find_setting(&self, facts: &[u8], site: &[u8], name: &[u8], answer: &mut [u64]) -> u64;
     fn read_spool(&self, bytes: &[u8], lengths: &mut [u64], answer: &mut [u64]) -> u64;
     fn gateway(&self, blocks: Blocks, http: &[u8], out: &mut [u8], answer: &mut [u64]) -> u64;
-    fn read_response(&self, script: &[u8], answer: &mut [u64]) -> u64;
+    fn read_response(&self, edition: u64, method: &[u8], script: &[u8], answer: &mut [u64]) -> u64;
 
     fn read(&self, bytes: &[u8]) -> Result<Places, Refusal> {
         answered(|answer| self.scgi_read(bytes, answer)).map(Places::of)
@@ -46,8 +46,8 @@ pub trait Calls {
         answered(|answer| self.gateway(blocks, http, out, answer)).map(Forwarded::of)
     }
 
-    fn response(&self, script: &[u8]) -> Result<Action, Refusal> {
-        answered(|answer| self.read_response(script, answer)).map(Action::of)
+    fn response(&self, edition: u64, method: &[u8], script: &[u8]) -> Result<Action, Refusal> {
+        answered(|answer| self.read_response(edition, method, script, answer)).map(Action::of)
     }
 }
 
@@ -120,7 +120,13 @@ impl Calls for Archive {
         }
     }
 
-    fn read_response(&self, script: &[u8], answer: &mut [u64]) -> u64 {
-        unsafe { ffi::oy_response(script.as_ptr(), script.len(), answer.as_mut_ptr(), answer.len()) }
+    #[rustfmt::skip]
+    fn read_response(&self, edition: u64, method: &[u8], script: &[u8], answer: &mut [u64]) -> u64 {
+        unsafe {
+            ffi::oy_response(
+                edition, method.as_ptr(), method.len(), script.as_ptr(), script.len(),
+                answer.as_mut_ptr(), answer.len(),
+            )
+        }
     }
 }

@@ -23,7 +23,7 @@ const CALLS: [(Call, &str, usize, usize); 7] = [
     (Call::Setting, "setting", 3, Setting::COUNT),
     (Call::Spool, "spool", 1, SpoolEnd::COUNT),
     (Call::Gateway, "gateway", 4, Forwarded::COUNT),
-    (Call::Response, "response", 1, Action::COUNT),
+    (Call::Response, "response", 2, Action::COUNT),
 ];
 
 impl Call {
@@ -46,24 +46,32 @@ pub fn sides() -> [(&'static str, &'static dyn Calls); 2] {
     [("archive", &Archive), ("reference", &Reference)]
 }
 
-/// What a call is lent: its inputs in the order of its parameters, the length of its output or of its list of lengths, and the length of
-/// its list of numbers.
+/// What a call is told and lent: the edition, its inputs in the order of its parameters, the length of its output or of its list of
+/// lengths, and the length of its list of numbers.
 #[derive(Clone, Debug, PartialEq, Eq)]
 pub struct Case {
     pub call: Call,
+    /// Any number for the response reader. The other calls are told no edition; it is 0 for them.
+    pub edition: u64,
     pub inputs: Vec<Vec<u8>>,
     pub room: usize,
     pub answer_len: usize,
 }
 
 impl Case {
+    /// A case of a call that is told no edition.
     pub fn new(call: Call, inputs: Vec<Vec<u8>>, room: usize) -> Self {
-        Case { call, inputs, room, answer_len: call.numbers() }
+        Case { call, edition: 0, inputs, room, answer_len: call.numbers() }
     }
 
-    /// The case as one line: name, room, length of the list of numbers, each input in hex.
+    /// A case of the response reader, which writes no output.
+    pub fn response(edition: u64, method: &[u8], script: Vec<u8>) -> Self {
+        Case { edition, ..Case::new(Call::Response, vec![method.to_vec(), script], 0) }
+    }
+
+    /// The case as one line: name, edition, room, length of the list of numbers, each input in hex.
     pub fn line(&self) -> String {
-        let mut line = format!("{} {} {}", self.call.name(), self.room, self.answer_len);
+        let mut line = format!("{} {} {} {}", self.call.name(), self.edition, self.room, self.answer_len);
         for input in &self.inputs {
             line.push(' ');
             line.push('x');
@@ -76,10 +84,11 @@ impl Case {
     pub fn of_line(line: &str) -> Option<Case> {
         let mut words = line.split_whitespace();
         let call = Call::by_name(words.next()?)?;
+        let edition = words.next()?.parse().ok()?;
         let room = words.next()?.parse().ok()?;
         let answer_len = words.next()?.parse().ok()?;
         let inputs: Vec<_> = words.map(bytes_of_hex).collect::<Option<_>>()?;
-        (inputs.len() == CALLS[call as usize].2).then_some(Case { call, inputs, room, answer_len })
+        (inputs.len() == CALLS[call as usize].2).then_some(Case { call, edition, inputs, room, answer_len })
     }
 }
 
@@ -96,10 +105,10 @@ pub struct Room<'a> {
     pub answer: &'a mut [u64],
 }
 
-/// Makes the call on one side.
-pub fn run(side: &dyn Calls, call: Call, inputs: &[&[u8]], room: Room) -> u64 {
+/// Makes the case's call on one side, with the inputs as they are lent.
+pub fn run(side: &dyn Calls, case: &Case, inputs: &[&[u8]], room: Room) -> u64 {
     let Room { out, lengths, answer } = room;
-    match call {
+    match case.call {
         Call::Read => side.scgi_read(inputs[0], answer),
         Call::Write => side.scgi_write(inputs[0], inputs[1], out, answer),
         Call::Find => side.scgi_find(inputs[0], inputs[1], answer),
@@ -109,7 +118,7 @@ pub fn run(side: &dyn Calls, call: Call, inputs: &[&[u8]], room: Room) -> u64 {
             let blocks = Blocks { facts: inputs[0], site: inputs[1], mounts: inputs[2] };
             side.gateway(blocks, inputs[3], out, answer)
         }
-        Call::Response => side.read_response(inputs[0], answer),
+        Call::Response => side.read_response(case.edition, inputs[0], inputs[1], answer),
     }
 }
 
@@ -140,7 +149,7 @@ pub fn observe(side: &dyn Calls, case: &Case) -> Observed {
     let mut answer = Guarded::new(&numbers_before(case.answer_len), 0xbbbb);
     let lent: Vec<_> = inputs.iter().map(Guarded::content).collect();
     let room = Room { out: out.lend(), lengths: lengths.lend(), answer: answer.lend() };
-    let code = run(side, case.call, &lent, room);
+    let code = run(side, case, &lent, room);
     let kept = inputs.iter().zip(&case.inputs).all(|(input, given)| input.is_intact() && input.content() == given);
     if !kept || !out.is_intact() || !lengths.is_intact() || !answer.is_intact() {
         panic!("{}: a write outside of what is lent for writing\n{}", case.call.name(), case.line());

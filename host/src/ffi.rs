@@ -38,5 +38,13 @@ extern "C" {
         answer: *mut u64,
         answer_len: usize,
     ) -> u64;
-    pub fn oy_response(script: *const u8, len: usize, answer: *mut u64, answer_len: usize) -> u64;
+    pub fn oy_response(
+        edition: u64,
+        method: *const u8,
+        method_len: usize,
+        script: *const u8,
+        len: usize,
+        answer: *mut u64,
+        answer_len: usize,
+    ) -> u64;
 }

@@ -50,7 +50,7 @@ impl Calls for Peer {
     fn read_spool(&self, _: &[u8], _: &mut [u64], _: &mut [u64]) -> u64 {
         unimplemented!()
     }
-    fn read_response(&self, _: &[u8], _: &mut [u64]) -> u64 {
+    fn read_response(&self, _: u64, _: &[u8], _: &[u8], _: &mut [u64]) -> u64 {
         unimplemented!()
     }
 }

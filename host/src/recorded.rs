@@ -1,4 +1,5 @@
 //! The recorded bytes of data/ and what its index says of them.
+use crate::answers::RFC_3875;
 use crate::case::{Call, Case};
 use crate::generate::{block, pair};
 use std::fs;
@@ -39,7 +40,7 @@ fn case_of(file: &str, bytes: Vec<u8>) -> Case {
         return Case::new(Call::Read, vec![bytes], 0);
     }
     if file.starts_with("cgi-wsgiref/") {
-        return Case::new(Call::Response, vec![bytes], 0);
+        return Case::response(RFC_3875, b"GET", bytes);
     }
     let room = bytes.len() + 20_000;
     let mut inputs = blocks("127.0.0.1", "/app", "a");

@@ -21,6 +21,7 @@ pub const HOST: Refusal = 16;
 pub const CONTENT: Refusal = 17;
 pub const TRANSFER_ENCODING: Refusal = 18;
 pub const MOUNT: Refusal = 19;
+/// What is lent to the gateway is wrong, or the response reader is told an edition that there is not.
 pub const LENT: Refusal = 20;
 pub const ROOM: Refusal = 21;
 // 22, for variables above 16,384 bytes, is not given any more: no request comes near.

@@ -1,4 +1,5 @@
 //! Inputs of the benchmarks.
+use crate::answers::RFC_3875;
 use crate::calls::{Archive, Calls};
 use crate::case::{before, numbers_before, run, Call, Case, Room};
 use crate::generate::{block, pair};
@@ -19,10 +20,14 @@ impl Sample {
         Sample { call, input, cases }
     }
 
-    /// Bytes of all inputs together, without the lent blocks of the gateway.
+    /// Bytes of all inputs together, without the lent blocks of the gateway and without the method of a response.
     pub fn bytes(&self) -> usize {
-        let lent = if self.call == Call::Gateway { 3 } else { 0 };
-        self.cases.iter().flat_map(|case| &case.inputs[lent..]).map(Vec::len).sum()
+        let beside = match self.call {
+            Call::Gateway => 3,
+            Call::Response => 1,
+            _ => 0,
+        };
+        self.cases.iter().flat_map(|case| &case.inputs[beside..]).map(Vec::len).sum()
     }
 
     /// Runs each case `times` times on one side.
@@ -34,7 +39,7 @@ impl Sample {
             let mut answer = [0; 6];
             for _ in 0..times {
                 let room = Room { out: &mut out, lengths: &mut lengths, answer: &mut answer };
-                let code = run(side, case.call, black_box(&inputs), room);
+                let code = run(side, black_box(case), black_box(&inputs), room);
                 assert_eq!(black_box(code), 0, "{}: {} is refused", self.call.name(), self.input);
             }
         }
@@ -117,7 +122,7 @@ fn http_case(fields: usize, body_len: usize) -> Case {
 fn response_case(fields: usize, body_len: usize) -> Case {
     let mut bytes = format!("Content-Type: text/plain\r\n{}\r\n", field_lines(fields - 1)).into_bytes();
     bytes.resize(bytes.len() + body_len, b'b');
-    Case::new(Call::Response, vec![bytes], 0)
+    Case::response(RFC_3875, b"GET", bytes)
 }
 
 /// The recorded cases of the call that are accepted, with room enough for the C peer, which asks for more than it needs.

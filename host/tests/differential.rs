@@ -1,5 +1,5 @@
 //! The archive against the independent implementation, call by call, on many inputs: what is given, what is written, what is left.
-use oyinkafubo_host::answers::{CUT, FULL, REFUSED, WHOLE};
+use oyinkafubo_host::answers::{CUT, DRAFT_1996, FULL, REFUSED, RFC_3875, WHOLE};
 use oyinkafubo_host::case::{compare, observe, Call, Case, Observed};
 use oyinkafubo_host::generate::{self, lent};
 use oyinkafubo_host::random::Random;
@@ -119,18 +119,24 @@ fn gateway() {
     assert!(by_limits.seen[9] > 1_000 && by_limits.seen[20] > 1_000, "a limit is rarely broken");
 }
 
+/// Every action is seen under both editions; and the method alone decides where the draft gives 25 for what the RFC edition accepts.
 #[test]
 fn response() {
     let mut tally = Tally::new("response");
-    let mut actions = [0; 5];
-    compare_many(Call::Response, 200_000, |_, observed| {
+    let mut actions = [[0; 5]; 2];
+    let mut by_method = 0;
+    compare_many(Call::Response, 300_000, |case, observed| {
         tally.count(observed.code);
         if observed.code == 0 {
-            actions[observed.answer[0] as usize] += 1;
+            actions[case.edition as usize][observed.answer[0] as usize] += 1;
+        }
+        if case.edition == DRAFT_1996 && observed.code == 25 {
+            by_method += usize::from(observe(&Reference, &Case { edition: RFC_3875, ..case }).code == 0);
         }
     });
-    println!("response: actions {actions:?}");
-    tally.assert_seen(&[21, 24, 25]);
+    println!("response: actions by edition {actions:?}, {by_method} refused for the method alone");
+    tally.assert_seen(&[20, 21, 24, 25]);
     tally.assert_accepted();
-    assert!(actions[1..].iter().all(|&seen| seen > 1000), "an action is rare");
+    assert!(actions.iter().all(|of_edition| of_edition[1..].iter().all(|&seen| seen > 1000)), "an action is rare");
+    assert!(by_method > 1_000, "the method alone decides rarely");
 }

@@ -1,5 +1,7 @@
 //! The archive against the independent implementation on every short input over a few bytes that matter.
+use oyinkafubo_host::answers::{DRAFT_1996, RFC_3875};
 use oyinkafubo_host::case::{compare, Call, Case};
+use std::collections::BTreeSet;
 
 /// Calls `each` with every text of at most `most` of the bytes.
 fn every_text(from: &[u8], most: usize, each: &mut impl FnMut(&[u8])) {
@@ -71,7 +73,7 @@ fn lookup_in_blocks() {
 /// Texts as lines, as a status, and as a Location.
 #[test]
 fn responses() {
-    let check = |bytes: Vec<u8>| drop(compare(&Case::new(Call::Response, vec![bytes], 0)));
+    let check = |bytes: Vec<u8>| drop(compare(&Case::response(RFC_3875, b"GET", bytes)));
     every_text(b"A:\r\n _", 5, &mut |text| {
         check(text.to_vec());
         check([text, b"\nContent-Type: t\n\n"].concat());
@@ -79,6 +81,29 @@ fn responses() {
     });
     every_text(b"0256 x", 5, &mut |text| check([b"Content-Type: t\nStatus:", text, b"\n\n"].concat()));
     every_text(b"/.a%2F:?", 5, &mut |text| check([b"Location:", text, b"\n\n"].concat()));
+}
+
+/// Texts as the method under the draft edition, and every byte in each place of GET and HEAD, in place of one of theirs and between them.
+/// With a document every method is accepted, with a Location these two alone.
+#[test]
+fn methods_under_the_draft() {
+    let mut accepted = BTreeSet::new();
+    let mut check = |method: &[u8]| {
+        let given = |script: &[u8]| compare(&Case::response(DRAFT_1996, method, script.to_vec())).code;
+        assert_eq!(given(b"Content-Type: t\n\nbody"), 0, "{method:?}");
+        match given(b"Location: /x\n\n") {
+            0 => drop(accepted.insert(method.to_vec())),
+            number => assert_eq!(number, 25, "{method:?}"),
+        }
+    };
+    every_text(b"GETHAD ", 5, &mut check);
+    for (method, byte) in [&b"GET"[..], b"HEAD"].into_iter().flat_map(|method| (0..=255).map(move |byte| (method, byte))) {
+        for at in 0..=method.len() {
+            check(&[&method[..at], &[byte], &method[at..]].concat());
+            check(&[&method[..at], &[byte], method.get(at + 1..).unwrap_or_default()].concat());
+        }
+    }
+    assert_eq!(accepted, BTreeSet::from([b"GET".to_vec(), b"HEAD".to_vec()]));
 }
 
 mod gateway {

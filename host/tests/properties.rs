@@ -260,3 +260,51 @@ mod gateway {
         assert!(at_limit.iter().all(|&pairs| pairs > 500), "pairs at a limit: {at_limit:?}");
     }
 }
+
+/// 02 §9: the draft edition accepts exactly what the RFC edition accepts without a Location or with GET or HEAD, with the same answer.
+mod editions {
+    use oyinkafubo_host::answers::{DOCUMENT, DRAFT_1996, RFC_3875};
+    use oyinkafubo_host::calls::{Archive, Calls};
+    use oyinkafubo_host::case::Case;
+    use oyinkafubo_host::generate::response;
+    use oyinkafubo_host::random::Random;
+
+    /// An answer has a Location exactly where its action is not a document. What the RFC edition refuses, the draft refuses with the same
+    /// number, and what it refuses alone is 25.
+    #[test]
+    fn the_draft_beside_the_rfc() {
+        let mut random = Random::seeded("editions");
+        let mut seen = [0; 5];
+        for _ in 0..60_000 {
+            let (method, script) = (response::method(&mut random), response::script(&mut random));
+            let rfc = Archive.response(RFC_3875, &method, &script);
+            let (kind, expected) = match rfc {
+                Err(24) => (0, rfc),
+                Err(_) => (1, rfc),
+                Ok(answer) if answer.action == DOCUMENT => (2, rfc),
+                Ok(_) if method == b"GET" || method == b"HEAD" => (3, rfc),
+                Ok(_) => (4, Err(25)),
+            };
+            let draft = Archive.response(DRAFT_1996, &method, &script);
+            assert_eq!(draft, expected, "{}", Case::response(DRAFT_1996, &method, script).line());
+            seen[kind] += 1;
+        }
+        println!("editions: 24, 25, documents, a Location with GET or HEAD, a Location with another method: {seen:?}");
+        assert!(seen.iter().all(|&outputs| outputs > 1_000), "outputs: {seen:?}");
+    }
+
+    /// What the RFC edition gives does not depend on the method.
+    #[test]
+    fn two_methods_under_the_rfc() {
+        let mut random = Random::seeded("two methods");
+        let mut seen = [0; 2];
+        for _ in 0..20_000 {
+            let script = response::script(&mut random);
+            let [one, two] = [(); 2].map(|_| response::method(&mut random));
+            let given = Archive.response(RFC_3875, &one, &script);
+            assert_eq!(Archive.response(RFC_3875, &two, &script), given, "{}", Case::response(RFC_3875, &two, script).line());
+            seen[usize::from(given.is_ok())] += usize::from(one != two);
+        }
+        assert!(seen.iter().all(|&outputs| outputs > 1_000), "outputs: {seen:?}");
+    }
+}

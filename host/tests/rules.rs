@@ -1,5 +1,5 @@
 //! The bytes that the rules name, on both sides.
-use oyinkafubo_host::answers::{Places, REFUSED, WHOLE};
+use oyinkafubo_host::answers::{Places, REFUSED, RFC_3875, WHOLE};
 use oyinkafubo_host::case::sides;
 use oyinkafubo_host::text::{bytes, EXAMPLE};
 
@@ -112,7 +112,7 @@ fn responses() {
     ];
     for (name, side) in sides() {
         for (script, expected) in cases {
-            let given = side.response(script.as_bytes()).map(|action| action.numbers());
+            let given = side.response(RFC_3875, b"GET", script.as_bytes()).map(|action| action.numbers());
             assert_eq!(given, expected, "{name}: {script}");
         }
     }
@@ -471,6 +471,160 @@ mod mount_limits {
                 assert_eq!(side.read(&request).map(|places| places.used), expected, "{name}, read");
                 let written = side.write(&block, &body, &mut vec![0; request.len()]).map(|written| written.bytes);
                 assert_eq!(written, expected, "{name}, write");
+            }
+        }
+    }
+}
+
+/// 02 §9: under the draft edition a Location with any other method than GET and HEAD is 25; under the RFC edition no method is looked at.
+mod editions {
+    use oyinkafubo_host::answers::{DRAFT_1996, RFC_3875};
+    use oyinkafubo_host::calls::Calls;
+    use oyinkafubo_host::case::sides;
+
+    /// Outputs of each row of the table with their answers, and whether they have a Location.
+    const ROWS: [(&str, [u64; 6], bool); 7] = [
+        ("Location: /x\n\n", [1, 0, 10, 2, 14, 0], true),
+        ("Location: http://q/x\n\n", [2, 302, 10, 10, 22, 0], true),
+        ("X: y\r\nLocation: a:b\r\n\r\n", [2, 302, 16, 3, 23, 0], true),
+        ("Location: a:b\nStatus: 301\nContent-Type: t\n\nx", [3, 301, 10, 3, 43, 1], true),
+        ("Content-Type: t\nStatus: 308 y\nLocation: a:b\n\n", [3, 308, 40, 3, 45, 0], true),
+        ("Content-Type: t\n\nx", [4, 200, 0, 0, 17, 1], false),
+        ("Status: 302\nContent-Type: t\n\nx", [4, 302, 0, 0, 29, 1], false),
+    ];
+
+    /// Methods, and whether a script may send Location for them under the draft edition.
+    #[rustfmt::skip]
+    const METHODS: [(&str, bool); 16] = [
+        ("GET", true), ("HEAD", true), ("POST", false), ("get", false), ("GET ", false), ("", false),
+        ("PUT", false), ("Head", false), (" GET", false), ("GETS", false), ("GE", false),
+        ("HEA", false), ("HEADS", false), ("HEAT", false), ("GET\0", false), ("G\0T", false),
+    ];
+
+    const EDITIONS: [u64; 2] = [RFC_3875, DRAFT_1996];
+
+    /// The numbers of the answer, or the refusal.
+    fn given(side: &dyn Calls, edition: u64, method: &str, script: &str) -> Result<[u64; 6], u8> {
+        side.response(edition, method.as_bytes(), script.as_bytes()).map(|action| action.numbers())
+    }
+
+    #[test]
+    fn each_row_with_each_method() {
+        for (name, side) in sides() {
+            for (script, answer, location) in ROWS {
+                for (method, allowed) in METHODS {
+                    let by_draft = if location && !allowed { Err(25) } else { Ok(answer) };
+                    let both = EDITIONS.map(|edition| given(side, edition, method, script));
+                    assert_eq!(both, [Ok(answer), by_draft], "{name}: {method:?}, {script:?}");
+                }
+            }
+        }
+    }
+
+    /// The number is the same under both editions for every method: 24 with and without a Location, and 25 that needs no method.
+    #[test]
+    fn refused_anyway() {
+        let long = format!("Location: a:b\nX: {}\n\n", "x".repeat(8_174));
+        let lines = format!("Location: a:b\n{}\n", "X:\n".repeat(64));
+        assert_eq!(long.len(), 8_193);
+        let cases = [
+            ("Location: /x\nno colon\n\n", 24),
+            ("no colon\nLocation: /x\n\n", 24),
+            ("Location: /x\nLocation: /x\n: y\n\n", 24),
+            ("Location: /x\n", 24),
+            ("Location : /x\n\n", 24),
+            ("Location: /\u{1}\n\n", 24),
+            (&long[..], 24),
+            (&lines[..], 24),
+            ("no colon\n\n", 24),
+            ("", 24),
+            ("\n", 25),
+            ("X: y\n\n", 25),
+            ("Content-Type:\n\n", 25),
+            ("Content-Type: t\nStatus: 99\n\n", 25),
+            ("Content-Type: t\nContent-Type: t\n\n", 25),
+            ("Location: /..\n\n", 25),
+            ("Location: 1a:b\n\n", 25),
+            ("Location:\n\n", 25),
+            ("Location: /x\nLocation: /x\n\n", 25),
+            ("Location: /x\nlocation: a:b\n\n", 25),
+            ("Location: /x\n\nbody", 25),
+        ];
+        for (name, side) in sides() {
+            for (script, number) in cases {
+                for (method, _) in METHODS {
+                    let both = EDITIONS.map(|edition| given(side, edition, method, script));
+                    assert_eq!(both, [Err(number); 2], "{name}: {method:?}, {script:?}");
+                }
+            }
+        }
+    }
+
+    /// A field of the head with this whole name, letter case aside, wherever it stands.
+    #[test]
+    fn what_a_location_is() {
+        let cases = [
+            ("location: /x\n\n", true),
+            ("LOCATION:/x\n\n", true),
+            ("lOCATIOn:\t/x \r\n\r\n", true),
+            ("X: y\nlocation: a:b\n\n", true),
+            ("Content-Type: t\nStatus: 303\nlocation: a:b\nX: y\n\n", true),
+            ("Locations: /x\nContent-Type: t\n\n", false),
+            ("Locatio: /x\nContent-Type: t\n\n", false),
+            ("X-Location: /x\nContent-Type: t\n\n", false),
+            ("Content_Location: /x\nContent-Type: t\n\n", false),
+            ("Content-Type: Location: /x\n\n", false),
+            ("Content-Type: t\n\nLocation: /x\n\n", false),
+        ];
+        for (name, side) in sides() {
+            for (script, location) in cases {
+                let by_rfc = given(side, RFC_3875, "POST", script);
+                assert!(by_rfc.is_ok(), "{name}: {script:?}");
+                assert_eq!(given(side, DRAFT_1996, "HEAD", script), by_rfc, "{name}: {script:?}");
+                let by_draft = if location { Err(25) } else { by_rfc };
+                assert_eq!(given(side, DRAFT_1996, "POST", script), by_draft, "{name}: {script:?}");
+            }
+        }
+    }
+
+    /// What the call gives with a list of this length, and the list, which had 7 in it.
+    fn into_list(side: &dyn Calls, edition: u64, method: &str, script: &str, len: usize) -> (u64, Vec<u64>) {
+        let mut list = vec![7; len];
+        (side.read_response(edition, method.as_bytes(), script.as_bytes(), &mut list), list)
+    }
+
+    /// 20 for every other number, before 24, 25 and 21. Some of these numbers have the low bits of an edition.
+    #[test]
+    fn no_such_edition() {
+        let scripts = ["Location: /x\n\n", "Content-Type: t\n\n", "\n", "no colon\nLocation: /x\n\n", ""];
+        for (name, side) in sides() {
+            for edition in [2, 3, 256, 257, 1 << 32, (1 << 32) + 1, 1 << 63, (1 << 63) + 1, u64::MAX - 1, u64::MAX] {
+                for (method, script) in ["GET", "POST", ""].into_iter().flat_map(|method| scripts.map(|script| (method, script))) {
+                    let lists = [0, 5, 6].map(|len| into_list(side, edition, method, script, len));
+                    assert_eq!(lists, [0, 5, 6].map(|len| (20, vec![7; len])), "{name}: {edition}, {method:?}, {script:?}");
+                }
+            }
+        }
+    }
+
+    /// 24 before 25, and 25 before 21; nothing is stored.
+    #[test]
+    fn order() {
+        let cases = [
+            (DRAFT_1996, "POST", "no colon\nLocation: /x\n\n", 24),
+            (DRAFT_1996, "POST", "Location: /x\n\n", 25),
+            (DRAFT_1996, "", "Location: a:b\nStatus: 302\nContent-Type: t\n\n", 25),
+            (DRAFT_1996, "GET", "Location: /..\n\n", 25),
+            (DRAFT_1996, "GET", "Location: /x\n\n", 21),
+            (DRAFT_1996, "POST", "Content-Type: t\n\n", 21),
+            (RFC_3875, "POST", "no colon\nLocation: /x\n\n", 24),
+            (RFC_3875, "POST", "Location: /..\n\n", 25),
+            (RFC_3875, "POST", "Location: /x\n\n", 21),
+        ];
+        for (name, side) in sides() {
+            for (edition, method, script, number) in cases {
+                let lists = [0, 5].map(|len| into_list(side, edition, method, script, len));
+                assert_eq!(lists, [0, 5].map(|len| (number, vec![7; len])), "{name}: {edition}, {method:?}, {script:?}");
             }
         }
     }

@@ -1,4 +1,5 @@
 //! What the header says under "How to write the loop", tried on the archive alone.
+use oyinkafubo_host::answers::{DRAFT_1996, RFC_3875};
 use oyinkafubo_host::calls::{Archive, Blocks, Calls};
 use oyinkafubo_host::generate::{http, lent, response};
 use oyinkafubo_host::random::Random;
@@ -70,23 +71,26 @@ fn a_full_buffer() {
     }
 }
 
-/// The first 8,193 bytes of a script's output settle everything but the body's length.
+/// The first 8,193 bytes of a script's output settle everything but the body's length, under both editions and for every method.
 #[test]
 fn what_settles_a_response() {
     let mut random = Random::seeded("settled responses");
-    let mut seen = [0; 2];
+    let mut seen = [[0; 2]; 2];
     for _ in 0..20_000 {
         let mut script = response::script(&mut random);
         let more = random.pick(&[0, 1, MAX_HEAD, 3 * MAX_HEAD]);
         script.resize(script.len() + more, b'\n');
         let first = &script[..script.len().min(MAX_HEAD + 1)];
-        let mut settled = Archive.response(first);
-        if let Ok(action) = &mut settled {
-            assert_eq!(action.body_len, first.len() as u64 - action.body_start);
-            action.body_len += (script.len() - first.len()) as u64;
+        let method = response::method(&mut random);
+        for edition in [RFC_3875, DRAFT_1996] {
+            let mut settled = Archive.response(edition, &method, first);
+            if let Ok(action) = &mut settled {
+                assert_eq!(action.body_len, first.len() as u64 - action.body_start);
+                action.body_len += (script.len() - first.len()) as u64;
+            }
+            assert_eq!(settled, Archive.response(edition, &method, &script));
+            seen[edition as usize][usize::from(settled.is_ok() && first.len() < script.len())] += 1;
         }
-        assert_eq!(settled, Archive.response(&script));
-        seen[usize::from(settled.is_ok() && first.len() < script.len())] += 1;
     }
-    assert!(seen.iter().all(|&outputs| outputs > 1_000), "outputs: {seen:?}");
+    assert!(seen.iter().flatten().all(|&outputs| outputs > 1_000), "outputs: {seen:?}");
 }

@@ -11,6 +11,7 @@ mod gateway_order; // the step: the order of its refusals
 mod gateway_limits; // the step: its largest inputs
 mod digits; // decimal numbers of ten and of eleven digits, in each call that reads one
 mod mount_limits; // the step: a limit of the body for each mount
+mod edition_cases; // script response heads under both editions
 
 fn main() {
     scgi_cases::reader();
@@ -36,4 +37,5 @@ fn main() {
     gateway_limits::all();
     digits::all();
     mount_limits::all();
+    edition_cases::all();
 }

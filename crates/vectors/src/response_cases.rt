@@ -1,6 +1,7 @@
-// Script response heads: each row of the table, each way to 24 and to 25, and the limits.
+// Script response heads under the RFC edition: each row of the table, each way to 24 and to 25, and the limits.
 use crate::print;
-use response::respond::respond;
+use editions::edition::Edition;
+use editions::edition::respond_by;
 use response::table::Action;
 use response::table::Response;
 
@@ -14,8 +15,8 @@ fn action_word(action: Action) {
 }
 
 // The action, its status, then start and length of the Location and of the body.
-fn show(s: &[u8]) {
-    let r = respond(s);
+pub fn show_by(edition: Edition, method: &[u8], s: &[u8]) {
+    let r = respond_by(edition, method, s);
     match r {
         Response::Answer {
             action,
@@ -35,6 +36,11 @@ fn show(s: &[u8]) {
         }
         Response::Refused(k) => print::refused(k),
     }
+}
+
+// Under the RFC edition, with a method for which the draft refuses a Location.
+fn show(s: &[u8]) {
+    show_by(Edition::Rfc, b"POST", s);
 }
 
 // Each row, with both line ends.

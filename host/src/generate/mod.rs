@@ -43,7 +43,7 @@ pub fn case(random: &mut Random, call: Call) -> Case {
         Call::Setting => scgi::setting_case(random),
         Call::Spool => scgi::spool_case(random),
         Call::Gateway => http::gateway_case(random),
-        Call::Response => Case::new(call, vec![response::script(random)], 0),
+        Call::Response => response::response_case(random),
     };
     if random.chance(4) {
         case.answer_len = random.below(call.numbers() + 3);

@@ -1,6 +1,8 @@
-//! Whole outputs of scripts.
+//! Whole outputs of scripts, with an edition and a method to read them under.
 use super::damage::damage;
 use super::LETTERS;
+use crate::answers::{DRAFT_1996, RFC_3875};
+use crate::case::Case;
 use crate::random::Random;
 use crate::refusal::*;
 
@@ -123,4 +125,51 @@ pub fn script(random: &mut Random) -> Vec<u8> {
         _ => {}
     }
     bytes
+}
+
+/// Numbers that are no edition, some of them with the low bits of one.
+const NO_EDITIONS: &[u64] = &[2, 3, 255, 256, 257, 1 << 32, (1 << 32) + 1, 1 << 63, (1 << 63) + 1, u64::MAX - 1, u64::MAX];
+
+/// The number of an edition, now and then another one.
+fn edition(random: &mut Random) -> u64 {
+    match random.below(50) {
+        0 => random.pick(NO_EDITIONS),
+        1 => random.number(),
+        2..=22 => RFC_3875,
+        _ => DRAFT_1996,
+    }
+}
+
+/// Methods that are neither GET nor HEAD, most of them near to one.
+#[rustfmt::skip]
+const OTHER_METHODS: &[&[u8]] = &[
+    b"", b"POST", b"PUT", b"DELETE", b"OPTIONS", b"get", b"Get", b"GEt", b"head", b"Head", b"HEAd", b"GET ", b" GET", b"HEAD ", b"\tHEAD",
+    b"G", b"GE", b"HEA", b"GETS", b"HEADS", b"GETHEAD", b"HEAT", b"G\0T", b"GET\0", b"\0GET", b"HE\0D", b"HEAD\0", b"\0", b"GET, HEAD",
+];
+
+/// A method: often GET or HEAD, else one near to them, any bytes, or a long one.
+pub fn method(random: &mut Random) -> Vec<u8> {
+    let allowed: &[u8] = random.pick(&[b"GET", b"HEAD"]);
+    let mut method = allowed.to_vec();
+    match random.below(20) {
+        0..=9 => {}
+        10 => damage(random, &mut method),
+        11 => {
+            // a length with the low bits of the one it had
+            let more = random.pick(&[MAX_METHOD, 256, 65_536]);
+            method.resize(method.len() + more, b'T');
+        }
+        12 => {
+            let len = random.small();
+            method = random.bytes(len);
+        }
+        _ => method = random.pick(OTHER_METHODS).to_vec(),
+    }
+    method
+}
+
+/// A case of the response reader.
+pub fn response_case(random: &mut Random) -> Case {
+    let (edition, method) = (edition(random), method(random));
+    Case::response(edition, &method, script(random))
 }

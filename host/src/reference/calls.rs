@@ -58,7 +58,7 @@ impl Calls for Reference {
         store(forward(blocks, http, out).map(|forwarded| forwarded.numbers()), answer)
     }
 
-    fn read_response(&self, script: &[u8], answer: &mut [u64]) -> u64 {
-        store(response(script).map(|action| action.numbers()), answer)
+    fn read_response(&self, edition: u64, method: &[u8], script: &[u8], answer: &mut [u64]) -> u64 {
+        store(response(edition, method, script).map(|action| action.numbers()), answer)
     }
 }

@@ -4,6 +4,7 @@
 mod block;
 mod bytes;
 mod calls;
+mod edition;
 mod fields;
 mod gateway;
 mod head;

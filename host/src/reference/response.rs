@@ -1,5 +1,6 @@
 //! Script response heads: the server's action for a script's whole output.
 use super::bytes::decimal;
+use super::edition::Edition;
 use super::fields::Field;
 use super::target;
 use crate::answers::{Action, DOCUMENT, REDIRECT, REDIRECT_WITH_DOCUMENT, SERVE};
@@ -62,9 +63,18 @@ impl<'a> Head<'a> {
     }
 }
 
-/// The action for a script's whole output.
-pub fn response(script: &[u8]) -> Result<Action, Refusal> {
+/// The action for a script's whole output, under the edition of this number and for a request of this method.
+pub fn response(edition: u64, method: &[u8], script: &[u8]) -> Result<Action, Refusal> {
+    let edition = Edition::of(edition)?;
     let head = Head::of(script)?;
+    if head.location.is_some() && !edition.allows_location(method) {
+        return Err(CONTRADICTION);
+    }
+    act(&head, script)
+}
+
+/// The action for an output with this head, the request's method aside.
+fn act(head: &Head, script: &[u8]) -> Result<Action, Refusal> {
     let status = head.status()?;
     let is_empty = |value: Option<&[u8]>| value.is_some_and(|bytes| bytes.is_empty());
     if head.repeated || is_empty(head.content_type) {
