@@ -24,7 +24,7 @@
  * At the start. Call oy_gateway with the three blocks and http_len 0: it returns OY_LENT (20) where a block is wrong, else
  * OY_CUT (1). The connection facts differ from one connection to the next; at the start take sample ones.
  *
- * 20 is given exactly where one of these fails, whatever the HTTP bytes:
+ * oy_gateway gives 20 exactly where one of these fails, whatever the HTTP bytes:
  * - facts and site have at most OY_MAX_FACTS bytes each, mounts at most OY_MAX_MOUNTS bytes and OY_MAX_MOUNT_COUNT entries;
  * - each of the three is a block as above, with no name twice in it;
  * - each name of mounts begins with '/' and does not end with '/'. So no mount can be "/", and a request for "/" is always 19:
@@ -60,8 +60,11 @@
  * NUL for each, and write that block with the same body by oy_scgi_write into another output. Take no name that begins with
  * HTTP_: those are the client's fields, and a name that is there already is refused (7).
  *
- * Answering. Give oy_response the script's whole output. For OY_SERVE make a GET request for the target that Location names,
- * and count such steps, since scripts can name each other. Otherwise send the status, and of the fields of the script's head,
+ * Answering. Give oy_response the edition that the pool's scripts are written to, the method of the request that the script
+ * answers, and the script's whole output. The editions differ in one rule: by the draft of 1996 a script may send Location only
+ * where the method is GET or HEAD, and another method makes it 25. So keep an edition for each pool; OY_RFC_3875 where nothing
+ * else is known. For OY_SERVE make a GET request for the target that Location names, whose output is then read with GET, and
+ * count such steps, since scripts can name each other. Otherwise send the status, and of the fields of the script's head,
  * which is all before the body's start, those that are the script's to send; end each line in CR LF, as the script may end
  * it in LF alone. No name or value has a CR, LF or NUL in it. Not to be forwarded: Status; Location where the action is
  * OY_SERVE; and the connection's own, Connection, Keep-Alive, Proxy-Connection, TE, Trailer, Transfer-Encoding and Upgrade.
@@ -84,7 +87,7 @@ extern "C" {
 
 /* The version, of which this is the one source: pkg-config and cargo are told the same. */
 #define OYINKAFUBO_VERSION_MAJOR 0
-#define OYINKAFUBO_VERSION_MINOR 4
+#define OYINKAFUBO_VERSION_MINOR 5
 #define OYINKAFUBO_VERSION_PATCH 0
 
 /* The version as text: "MAJOR.MINOR.PATCH". */
@@ -114,7 +117,7 @@ enum oy_refusal {
     OY_CONTENT = 17,           /* Content-Length repeated or not 1 to OY_MAX_DIGITS digits; Content-Type repeated */
     OY_TRANSFER_ENCODING = 18, /* Transfer-Encoding present */
     OY_MOUNT = 19,             /* no mount fits the path */
-    OY_LENT = 20,              /* connection facts, site settings or mounts wrong */
+    OY_LENT = 20,              /* connection facts, site settings or mounts wrong; in oy_response, no such edition */
     OY_ROOM = 21,              /* the output, or the list of numbers, is too short */
     OY_VARIABLES = 22,         /* not given any more; the number stays unused */
     OY_BODY_LENGTH = 23,       /* writer: the body's length is not that of CONTENT_LENGTH */
@@ -146,6 +149,12 @@ enum oy_limit {
 
 /* How many bytes of a script's output settle what oy_response gives, but for the body's length: a head and a byte more. */
 #define OY_RESPONSE_SETTLED (OY_MAX_HEAD + 1)
+
+/* To which text a script is written. */
+enum oy_edition {
+    OY_RFC_3875 = 0,  /* a script may send Location whatever the method */
+    OY_DRAFT_1996 = 1 /* only where the method is GET or HEAD */
+};
 
 /* How a spool ends. */
 enum oy_ending {
@@ -280,11 +289,13 @@ uint64_t oy_gateway(const uint8_t *facts, size_t facts_len, const uint8_t *site,
                     size_t answer_len);
 
 /*
- * Reads a script's whole output, or its first OY_RESPONSE_SETTLED bytes as said above.
+ * Reads a script's whole output, or its first OY_RESPONSE_SETTLED bytes as said above. `edition` is one of enum oy_edition.
+ * `method` is that of the request, compared byte by byte ("get" is not "GET"); OY_RFC_3875 does not look at it.
  * Gives: the numbers of enum oy_response_index.
- * Refusals in their order: 24, 25, 21.
+ * Refusals in their order: 20 where `edition` is another number, 24, 25, 21.
  */
-uint64_t oy_response(const uint8_t *script, size_t len, uint64_t *answer, size_t answer_len);
+uint64_t oy_response(uint64_t edition, const uint8_t *method, size_t method_len, const uint8_t *script, size_t len,
+                     uint64_t *answer, size_t answer_len);
 
 #ifdef __cplusplus
 }

@@ -42,7 +42,7 @@ OYINKAFUBO_MAY_REST_ static const struct oy_refusal_entry *oy_refusal_row(uint64
         /* 17 */ {400, "Content-Length repeated or not 1 to 10 digits, or Content-Type repeated"},
         /* 18 */ {501, "Transfer-Encoding present"},
         /* 19 */ {404, "no mount fits the path"},
-        /* 20 */ {500, "connection facts, site settings or mounts wrong"},
+        /* 20 */ {500, "connection facts, site settings or mounts wrong, or no such edition"},
         /* 21 */ {0, "output or answer too short"},
         /* 22 */ {431, "not given any more; the number stays unused"},
         /* 23 */ {500, "body length differs from CONTENT_LENGTH"},
