@@ -26,7 +26,8 @@ CLAIMS = {
     'scgi': ['AcceptsExactly', 'WritesExactly', 'WriteThenRead', 'ReadThenWrite', 'SpoolsHold', 'WindowReadsAll', 'NumbersHold'],
     'mounts': ['MountIsLongest', 'LongestWins', 'MountsAreHeaders', 'RouteIsPath'],
     'gateway': ['BytesExactlyMeaning', 'WrittenIsAccepted', 'VariablesFit', 'NumbersHold', 'WorkedCases'],
-    'response': ['TableHolds', 'StatusHolds', 'ServedIsTarget', 'LocationStands', 'PlacesWithin', 'StreamSettles', 'NumbersHold'],
+    'response': ['TableHolds', 'StatusHolds', 'ServedIsTarget', 'LocationStands', 'PlacesWithin'],
+    'editions': ['RfcIsAsBefore', 'RefusalsStay', 'DraftExactly', 'StreamSettles', 'NumbersHold'],
     'capi': ['ZeroIsGiven', 'RefusalKeeps'],
 }
 
