@@ -5,7 +5,7 @@ use mathlib.Core.Path.{refl}
 use mathlib.Core.List.{List, [], _∷_}
 use lib.Dec.{leb}
 use lib.ListN.{length, take, drop}
-use Rattle.octets.specs.Outcome.{Outcome, refused}
+use Rattle.octets.specs.Outcome.{Outcome}
 use Rattle.octets.specs.Scan.{allOf}
 use Rattle.octets.proofs.Refusals.{Refuses, not-refused, number-of, refuses-within, refuses-only, refuses-then, refuses-need, refuses-given}
 use Rattle.http.specs.Head.{headOf}

@@ -14,7 +14,6 @@ use Rattle.octets.specs.Outcome.{refused, gives}
 use Rattle.octets.specs.Copy.{over}
 use Rattle.octets.proofs.Copies.{over-nil, store-last}
 use Rattle.framing.specs.Spool.{Spool, cut, refusedBy, ended, before, behind, total}
-use Rattle.framing.specs.Spool as Framing
 use Rattle.framing.specs.Claims.{Frames}
 use Rattle.framing.proofs.SpoolSteps.{at-end, at-cut, at-refused, at-full, onward}
 use Rattle.scgi.specs.Read.{usedOf}

@@ -1,6 +1,6 @@
 -- `targets::escape::decode_at` meets its contract.
 -- Assumes nothing.
-use Prim.Native.Nat.{_+_}
+use Prim.Native.Nat.{_+_, _<_}
 use lib.ListN.{getD}
 use Rattle.targets.proofs.Escapes.{hex-small, escape-inside, decode-byte, decode-escape}
 use native.Mathlib.Omega.{arith}
@@ -41,16 +41,19 @@ shared-slice-read-hex-value-2 c =
 hex-value-requires-2 : tie.Need-hex-value-requires-2
 hex-value-requires-2 c κs = search needs
 
+-- both digits are below 16
+digits : (c : tie.After-hex-value2) → (c .before .before .hex-value .result < 16) × (c .hex-value2 .result < 16)
+digits c =
+    let a = c .before .before .before .before .before .before .before .args in (
+      omega (arith, c .before .before .hex-value .ensures, hex-small (getD (a .s .now) (a .i + 1) 0)),
+      omega (arith, c .hex-value2 .ensures, hex-small (getD (a .s .now) (a .i + 2) 0)),
+    )
+
 mul-t7 : tie.Need-mul-t7
-mul-t7 c =
-    let a = c .before .before .before .before .before .before .before .args in
-    omega (arith, c .before .before .hex-value .ensures, hex-small (getD (a .s .now) (a .i + 1) 0))
+mul-t7 c = omega (arith, digits c .0, digits c .1)
 
 add-t13 : tie.Need-add-t13
-add-t13 c =
-    let a = c .before .before .before .before .before .before .before .args in
-    omega
-    (arith, c .before .before .hex-value .ensures, hex-small (getD (a .s .now) (a .i + 1) 0), c .hex-value2 .ensures, hex-small (getD (a .s .now) (a .i + 2) 0))
+add-t13 c = omega (arith, digits c .0, digits c .1)
 
 add-t10 : tie.Need-add-t10
 add-t10 c = search needs
