@@ -60,16 +60,16 @@
  * NUL for each, and write that block with the same body by oy_scgi_write into another output. Take no name that begins with
  * HTTP_: those are the client's fields, and a name that is there already is refused (7).
  *
- * Answering. Give oy_response the edition that the pool's scripts are written to, the method of the request that the script
- * answers, and the script's whole output. The editions differ in one rule: by the draft of 1996 a script may send Location only
- * where the method is GET or HEAD, and another method makes it 25. So keep an edition for each pool; OY_RFC_3875 where nothing
- * else is known. For OY_SERVE make a GET request for the target that Location names, whose output is then read with GET, and
- * count such steps, since scripts can name each other. Otherwise send the status, and of the fields of the script's head,
- * which is all before the body's start, those that are the script's to send; end each line in CR LF, as the script may end
- * it in LF alone. No name or value has a CR, LF or NUL in it. Not to be forwarded: Status; Location where the action is
- * OY_SERVE; and the connection's own, Connection, Keep-Alive, Proxy-Connection, TE, Trailer, Transfer-Encoding and Upgrade.
- * Content-Length is the server's to send, by the body's length here. A response to HEAD, and one with status 204 or 304, has no
- * body.
+ * Answering. Give oy_response the edition that the pool's scripts are written to, the method that the script was sent as
+ * REQUEST_METHOD (oy_scgi_find finds it in the block), and the script's whole output. The editions differ in one rule: under
+ * the draft a script may send Location only where the method is GET or HEAD, and with another method it is 25. So keep an
+ * edition for each pool; OY_RFC_3875 where nothing else is known. For OY_SERVE make a GET request for the target that
+ * Location names, whose output is then read with GET, and count such steps, since scripts can name each other. Otherwise send
+ * the status, and of the fields of the script's head, which is all before the body's start, those that are the script's to
+ * send; end each line in CR LF, as the script may end it in LF alone. No name or value has a CR, LF or NUL in it. Not to be
+ * forwarded: Status; Location where the action is OY_SERVE; and the connection's own, Connection, Keep-Alive,
+ * Proxy-Connection, TE, Trailer, Transfer-Encoding and Upgrade. Content-Length is the server's to send, by the body's length
+ * here. A response to HEAD, and one with status 204 or 304, has no body.
  *
  * A script's output need not be held whole. Its first OY_RESPONSE_SETTLED bytes, or all where it has fewer, settle what
  * oy_response returns, the action, the status, the Location and the body's start. Only the body's length is then that of the
@@ -122,7 +122,7 @@ enum oy_refusal {
     OY_VARIABLES = 22,         /* not given any more; the number stays unused */
     OY_BODY_LENGTH = 23,       /* writer: the body's length is not that of CONTENT_LENGTH */
     OY_RESPONSE = 24,          /* script response head malformed */
-    OY_CONTRADICTION = 25      /* script response fields contradict each other */
+    OY_CONTRADICTION = 25      /* script response fields contradict each other, or Location is not for the method */
 };
 
 /* Limits, each the largest that is accepted. */
@@ -132,7 +132,7 @@ enum oy_limit {
     OY_MAX_BODY = 1048576,  /* bytes of a body, and the limit of a mount that names none */
     OY_MAX_DIGITS = 10,     /* digits of a CONTENT_LENGTH, a Content-Length or a mount's limit, zeros in front counted */
     OY_MAX_HEAD = 8192,     /* bytes of an HTTP or script response head with its empty line */
-    OY_MAX_METHOD = 32,     /* bytes of a method */
+    OY_MAX_METHOD = 32,     /* bytes of an HTTP request's method */
     OY_MAX_TARGET = 4096,   /* bytes of a target */
     OY_MAX_SLASHES = 64,    /* slashes of a target's path */
     OY_MAX_FIELDS = 64,     /* field lines of a head */
@@ -150,7 +150,7 @@ enum oy_limit {
 /* How many bytes of a script's output settle what oy_response gives, but for the body's length: a head and a byte more. */
 #define OY_RESPONSE_SETTLED (OY_MAX_HEAD + 1)
 
-/* To which text a script is written. */
+/* To which text a script is written: RFC 3875, or draft-robinson-www-interface-01 of February 1996. */
 enum oy_edition {
     OY_RFC_3875 = 0,  /* a script may send Location whatever the method */
     OY_DRAFT_1996 = 1 /* only where the method is GET or HEAD */
@@ -290,7 +290,7 @@ uint64_t oy_gateway(const uint8_t *facts, size_t facts_len, const uint8_t *site,
 
 /*
  * Reads a script's whole output, or its first OY_RESPONSE_SETTLED bytes as said above. `edition` is one of enum oy_edition.
- * `method` is that of the request, compared byte by byte ("get" is not "GET"); OY_RFC_3875 does not look at it.
+ * `method` is that of the request, any bytes, compared byte by byte ("get" is not "GET"); OY_RFC_3875 does not look at it.
  * Gives: the numbers of enum oy_response_index.
  * Refusals in their order: 20 where `edition` is another number, 24, 25, 21.
  */

@@ -47,7 +47,7 @@ OYINKAFUBO_MAY_REST_ static const struct oy_refusal_entry *oy_refusal_row(uint64
         /* 22 */ {431, "not given any more; the number stays unused"},
         /* 23 */ {500, "body length differs from CONTENT_LENGTH"},
         /* 24 */ {502, "script response head malformed"},
-        /* 25 */ {502, "script response fields contradict"},
+        /* 25 */ {502, "script response fields contradict each other or the method"},
         {500, "unknown refusal"}
     };
     const unsigned last = sizeof rows / sizeof rows[0] - 1;

@@ -1,4 +1,4 @@
-//! The numbers that each call stores in its lent list, in their order, and the names of those that stand for something.
+//! The numbers that each call stores in its lent list, in their order; and names for those of actions, endings and editions.
 
 /// A struct of numbers that is a call's answer: the fields stand in the order of the list.
 macro_rules! answer {

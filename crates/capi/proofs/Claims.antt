@@ -26,7 +26,7 @@ use Rattle.capi.specs.Write.{countNumbers, writeGives}
 use Rattle.capi.specs.Find.{partNumbers}
 use Rattle.capi.specs.Setting.{heldNumbers}
 use Rattle.capi.specs.Spool.{spoolNumbers, spoolGives}
-use Rattle.capi.specs.Respond.{answerNumbers, toldResponse}
+use Rattle.capi.specs.Respond.{answerNumbers, responseFor}
 use Rattle.capi.specs.Forward.{forwardNumbers, gatewayGives}
 use Rattle.capi.specs.Claims.{Given, ZeroGives, ZeroIsGiven, RefusalKeeps}
 
@@ -40,8 +40,8 @@ told f (gives a) h list e = by (leb (length (f a)) (length list)) e
     by false e = absurd (omega arith)
 
 -- a response is refused with 20, or with a number of its edition
-told-not-0 : (n : ℕ) (m s : List ℕ) → toldResponse n m s ≡ refused 0 → ⊥
-told-not-0 n m s = by (eqb n 0) (eqb n 1)
+not-refused-0 : (n : ℕ) (m s : List ℕ) → responseFor n m s ≡ refused 0 → ⊥
+not-refused-0 n m s = by (eqb n 0) (eqb n 1)
   where
     by : (t u : Bool) → then (cond t (gives Rfc) (cond u (gives Draft) (refused 20))) (λ e. responseBy e m s) ≡ refused 0 → ⊥
     by true u e = false≢true (Editions.numbers-hold Rfc m s 0 e)
@@ -56,7 +56,7 @@ zero-is-given =
       find = λ b n. told partNumbers (lookupOf b n) (λ e. omega (arith, Headers.numbers-hold .lookup b n 0 e));
       setting = λ f s n. told heldNumbers (settingOf f s n) (λ e. omega (arith, Headers.numbers-hold .setting f s n 0 e));
       spool = λ s room. told spoolNumbers (gives (requestsOf s room)) (λ e. let z : _≡_ {A = ℕ} 0 1 = cc in omega arith);
-      respond = λ n m s. told answerNumbers (toldResponse n m s) (told-not-0 n m s);
+      respond = λ n m s. told answerNumbers (responseFor n m s) (not-refused-0 n m s);
       gateway = λ f s m h room. told forwardNumbers (stepOf f s m h room) (λ e. false≢true (Gateway.numbers-hold f s m h room 0 e));
     }
 

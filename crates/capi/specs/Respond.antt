@@ -11,17 +11,17 @@ use Rattle.response.specs.declared.table.Action.the-variants.{Serve, Redirect, 
 use Rattle.editions.specs.Edition.{responseBy}
 use Rattle.editions.specs.declared.edition.Edition.{Edition}
 use Rattle.editions.specs.declared.edition.Edition.the-variants.{Rfc, Draft}
-use Rattle.capi.specs.declared.respond.Told.{Told}
-use Rattle.capi.specs.declared.respond.Told.the-variants.{Known, Unknown}
+use Rattle.capi.specs.declared.respond.Numbered.{Numbered}
+use Rattle.capi.specs.declared.respond.Numbered.the-variants.{Known, Unknown}
 
--- the editions in their order: RFC 3875, the draft of 1996. Another number names none, and the settings are wrong
+-- the editions in their order: RFC 3875, the draft of 1996. Another number names none: 20, "settings .. wrong"
 abbrev pub editionOf : ℕ → Outcome Edition
 editionOf n = cond (eqb n 0) (gives Rfc) (cond (eqb n 1) (gives Draft) (refused 20))
 
 -- what the code's answer says
-abbrev pub toldOutcome : Told → Outcome Edition
-toldOutcome (Known e) = gives e
-toldOutcome Unknown = refused 20
+abbrev pub numberedOutcome : Numbered → Outcome Edition
+numberedOutcome (Known e) = gives e
+numberedOutcome Unknown = refused 20
 
 -- the rows of the table in their order: "serve that target", "redirect 302", "redirect with document", "document"
 abbrev pub actionNumber : Action → ℕ
@@ -36,8 +36,8 @@ answerNumbers a =
     actionNumber (a .action) ∷ a .status ∷ a .locationStart ∷ a .locationLength ∷ a .bodyStart ∷ a .bodyLength ∷ []
 
 -- "The response reader is now told the edition and the method": the edition's number is read before anything else
-abbrev pub toldResponse : ℕ → List ℕ → List ℕ → Outcome Answer
-toldResponse edition method script = then (editionOf edition) (λ e. responseBy e method script)
+abbrev pub responseFor : ℕ → List ℕ → List ℕ → Outcome Answer
+responseFor edition method script = then (editionOf edition) (λ e. responseBy e method script)
 
 abbrev pub responseGives : ℕ → List ℕ → List ℕ → Outcome (List ℕ)
-responseGives edition method script = then (toldResponse edition method script) (λ a. gives (answerNumbers a))
+responseGives edition method script = then (responseFor edition method script) (λ a. gives (answerNumbers a))

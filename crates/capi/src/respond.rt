@@ -1,29 +1,31 @@
 // Script responses.
 ghost use mathlib.Core.Path.{_≡_};
 ghost use Rattle.capi.specs.Answer.{Answered};
-ghost use Rattle.capi.specs.Respond.{editionOf, toldOutcome, actionNumber, responseGives};
+ghost use Rattle.capi.specs.Respond.{editionOf, numberedOutcome, actionNumber, responseGives};
 use crate::answer::give;
 use editions::edition::Edition;
 use editions::edition::respond_by;
 use response::table::Action;
 use response::table::Response;
 
-pub enum Told {
+// What the number of an edition names.
+pub enum Numbered {
     Known(Edition),
+    // 20
     Unknown,
 }
 
 // The edition that a number names.
-fn edition_of(n: u64) -> Told
-    ensures { λ r. ⌜ toldOutcome r ≡ editionOf n ⌝ }
+fn edition_of(n: u64) -> Numbered
+    ensures { λ r. ⌜ numberedOutcome r ≡ editionOf n ⌝ }
 {
     if n == 0 {
-        return Told::Known(Edition::Rfc);
+        return Numbered::Known(Edition::Rfc);
     }
     if n == 1 {
-        return Told::Known(Edition::Draft);
+        return Numbered::Known(Edition::Draft);
     }
-    Told::Unknown
+    Numbered::Unknown
 }
 
 // The number of an action.
@@ -44,8 +46,8 @@ fn action_number(a: Action) -> u64
 pub extern "C" fn oy_response(edition: u64, method: &[u8], script: &[u8], answer: &mut [u64]) -> u64
     ensures { λ r. ⌜ Answered (responseGives edition (now (method .entry)) (now (script .entry))) (now (answer .entry)) (now (answer .exit)) r ⌝ }
 {
-    let told = edition_of(edition);
-    let Told::Known(e) = told else {
+    let n = edition_of(edition);
+    let Numbered::Known(e) = n else {
         // "settings .. wrong": a number that names no edition is the caller's fault.
         return 20;
     };

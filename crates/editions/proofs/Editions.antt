@@ -11,9 +11,9 @@ use Rattle.octets.proofs.Bools.{or-true}
 use Rattle.octets.proofs.Outcomes.{then-gives, need-gives}
 use Rattle.octets.proofs.Refusals.{number-of, refuses-within, refuses-then, refuses-need, not-refused}
 use Rattle.response.specs.Head.{Head, headOf}
-use Rattle.response.specs.Table.{Answer}
+use Rattle.response.specs.Table.{Answer, hasLocation}
 use Rattle.response.specs.Response.{judgedHead, responseOf}
-use Rattle.response.specs.Claims.{hasLocation, Settled, settled}
+use Rattle.response.specs.Claims.{Settled, settled}
 use Rattle.response.specs.declared.table.Action.{Action}
 use Rattle.response.proofs.Claims as Response
 use Rattle.editions.specs.Edition.{mayRedirect, located, allowed, responseBy}
@@ -28,7 +28,7 @@ rfc-is-as-before m s = refl
 -- An answer's action tells whether there is a Location, so the edition can judge the answer.
 
 module _ (e : Edition) (m : List ℕ) where
-  abbrev pub judge : Answer → Outcome Answer
+  abbrev judge : Answer → Outcome Answer
   judge a = need (allowed e m (hasLocation (a .action))) 25 (gives a)
 
   either-25 : (t : Bool) → need {A = Answer} t 25 (refused 25) ≡ refused 25
@@ -42,7 +42,7 @@ module _ (e : Edition) (m : List ℕ) where
       rw z (either-25 (allowed e m (located h)))
   judged s h (gives a) p q = ap (λ (l : Bool). need (allowed e m l) 25 (gives a)) (Response.action-tells-location s h a p q)
 
-  pub by-action : (s : List ℕ) → responseBy e m s ≡ then (responseOf s) judge
+  by-action : (s : List ℕ) → responseBy e m s ≡ then (responseOf s) judge
   unfolding responseBy responseOf
   by-action s = by (headOf s) refl
     where
@@ -50,7 +50,7 @@ module _ (e : Edition) (m : List ℕ) where
       by (refused n) p = refl
       by (gives h) p = judged s h (judgedHead s h) p (ap (λ (o : Outcome Head). then o (judgedHead s)) p)
 
-  -- .. of an answer
+  -- where 01 gives an answer
   module _ (s : List ℕ) (a : Answer) (is : responseOf s ≡ gives a) where
     judged-is : responseBy e m s ≡ judge a
     judged-is = by-action s ∙ ap (λ (o : Outcome Answer). then o judge) is
@@ -76,10 +76,10 @@ numbers-hold e m s n q =
 -- The draft beside RFC 3875.
 
 module _ (m s : List ℕ) (a : Answer) where
-  abbrev Told : Type 0
-  Told = (locatedIn (headOf s) ≡ false) ⊎ (mayRedirect m ≡ true)
+  abbrev Free : Type 0
+  Free = (locatedIn (headOf s) ≡ false) ⊎ (mayRedirect m ≡ true)
 
-  to-rfc : responseBy Draft m s ≡ gives a → (responseBy Rfc m s ≡ gives a) × Told
+  to-rfc : responseBy Draft m s ≡ gives a → (responseBy Rfc m s ≡ gives a) × Free
   unfolding responseBy
   to-rfc q =
       let g = then-gives (headOf s) (λ h. need (allowed Draft m (located h)) 25 (judgedHead s h)) a q in
@@ -90,14 +90,14 @@ module _ (m s : List ℕ) (a : Answer) where
       by true t = inr t
       by false t = inl refl
 
-  to-draft : (responseBy Rfc m s ≡ gives a) × Told → responseBy Draft m s ≡ gives a
+  to-draft : (responseBy Rfc m s ≡ gives a) × Free → responseBy Draft m s ≡ gives a
   unfolding responseBy
   to-draft (q, t) =
       let g = then-gives (headOf s) (judgedHead s) a q in
       let l : allowed Draft m (located (g .it)) ≡ true = by (g .it) (g .first) t in
       rw (g .first, l) (g .next)
     where
-      by : (h : Head) → headOf s ≡ gives h → Told → allowed Draft m (located h) ≡ true
+      by : (h : Head) → headOf s ≡ gives h → Free → allowed Draft m (located h) ≡ true
       by h p (inl f) = let z : located h ≡ false = sym (ap locatedIn p) ∙ f in rw z
       by h p (inr y) = rw y (or-true (not (located h)))
 

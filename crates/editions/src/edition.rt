@@ -1,7 +1,6 @@
 // The call: edition, method and a script's whole output in, the action out.
 ghost use mathlib.Core.Path.{_≡_};
-ghost use Rattle.response.specs.Table.{responseOutcome};
-ghost use Rattle.response.specs.Claims.{hasLocation};
+ghost use Rattle.response.specs.Table.{hasLocation, responseOutcome};
 ghost use Rattle.editions.specs.Edition.{mayRedirect, allowed, responseBy};
 use octets::compare::same;
 use response::respond::respond;

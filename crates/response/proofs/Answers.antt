@@ -10,7 +10,7 @@ use lib.Dec.{eqb}
 use lib.ListN.{length}
 use borrow.Author.Tests.{eqb-true, le-leb}
 use Rattle.octets.specs.Text.{bytes}
-use Rattle.octets.specs.Outcome.{Outcome, refused, gives, then, need, given}
+use Rattle.octets.specs.Outcome.{refused, gives, then, given}
 use Rattle.octets.specs.Kinds.{within}
 use Rattle.octets.specs.Lists.{All, no-more, _&_}
 use Rattle.octets.proofs.Bools.{and-left, and-right, or-true}
@@ -37,6 +37,7 @@ use Rattle.response.specs.Table.{
   redirects,
   redirectsWithDocument,
   hasDocument,
+  hasLocation,
   statusOr,
   statusFor,
   answerFor,
@@ -47,7 +48,7 @@ use Rattle.response.specs.Table.{
   scriptOf,
 }
 use Rattle.response.specs.Response.{named, eachOnce, firstValue, isThere, judgedHead, responseOf}
-use Rattle.response.specs.Claims.{howMany, rowsThatFit, rowOf, statusFits, hasLocation, locationIn, Within}
+use Rattle.response.specs.Claims.{howMany, rowsThatFit, rowOf, statusFits, locationIn, Within}
 use Rattle.response.specs.declared.table.Action.{Action}
 use Rattle.response.specs.declared.table.Action.the-variants.{Serve, Redirect, RedirectDocument, Document}
 use Rattle.response.proofs.Statuses.{status-within}
@@ -174,40 +175,27 @@ module _ (s : List ℕ) (a : Answer) (r : Answered s a) where
       by none p e f = cc
       by (some v) p e f = rw (value-is v p) (target v (isLocal (v .bytes)) e f)
 
--- whether there is a Location, by where it leads
-there-goes : (o : Option Value) → isThere o ≡ not (noLocation (goesTo o))
-there-goes none = refl
-there-goes (some v) = by (isLocal (v .bytes))
-  where
-    by : (t : Bool) → true ≡ not (noLocation (cond t local elsewhere))
-    by true = refl
-    by false = refl
-
-elsewhere-leads : (g : Goes) → otherLocation g ≡ true → not (noLocation g) ≡ true
-elsewhere-leads nowhere e = absurd (false≢true e)
-elsewhere-leads local e = refl
-elsewhere-leads elsewhere e = refl
-
--- .. and by the row
-row-leads : (act : Action) (x : Script) → rowOf act x ≡ true → not (noLocation (x .goes)) ≡ hasLocation act
-row-leads Serve x f =
-    by (x .goes) (and-left (localLocation (x .goes)) _ (and-left (localLocation (x .goes) && _) (noBody x) f))
-  where
-    by : (g : Goes) → localLocation g ≡ true → not (noLocation g) ≡ true
-    by nowhere e = absurd (false≢true e)
-    by local e = refl
-    by elsewhere e = refl
-row-leads Redirect x f =
-    elsewhere-leads (x .goes)
-    (and-left (otherLocation (x .goes)) _ (and-left (otherLocation (x .goes) && _) _ (and-left (otherLocation (x .goes) && _ && _) (noBody x) f)))
-row-leads RedirectDocument x f = elsewhere-leads (x .goes) (and-left (otherLocation (x .goes)) _ (and-left (otherLocation (x .goes) && _) _ f))
-row-leads Document x f = ap not (and-left (noLocation (x .goes)) (x .typed) f)
+-- the row of an action says whether there is a Location
+module _ (s : List ℕ) (ends n : ℕ) (typed : Bool) (t : Option ℕ) where
+  row-tells : (act : Action) (o : Option Value) → rowOf act (scriptOf s ends n typed o t) ≡ true → isThere o ≡ hasLocation act
+  row-tells Serve none f = absurd (false≢true f)
+  row-tells Redirect none f = absurd (false≢true f)
+  row-tells RedirectDocument none f = absurd (false≢true f)
+  row-tells Document none f = refl
+  row-tells Serve (some v) f = refl
+  row-tells Redirect (some v) f = refl
+  row-tells RedirectDocument (some v) f = refl
+  row-tells Document (some v) f = absurd (by (isLocal (v .bytes)) f)
+    where
+      by : (l : Bool) → noLocation (cond l local elsewhere) && typed ≡ true → ⊥
+      by true e = false≢true e
+      by false e = false≢true e
 
 pub tells-location :
     (s : List ℕ) (h : Head) (a : Answer) → headOf s ≡ gives h → Answered s a
     → isThere (firstValue (named (bytes "location") (h .fields))) ≡ hasLocation (a .action)
 tells-location s h a p r =
-    rw (same-head s h (r .head) p (r .is)) (there-goes (location s a r) ∙ row-leads (a .action) (scriptAt s (r .head) (r .status)) (r .row .fits))
+    rw (same-head s h (r .head) p (r .is)) (row-tells s (r .head .ends) _ _ (r .status) (a .action) (location s a r) (r .row .fits))
 
 -- The status.
 

@@ -1,18 +1,19 @@
 -- Which numbers a response is refused with: 24 of the head, and 25 of what is asked then.
 -- Assumes nothing.
 use Prim.Native.Nat.{ℕ}
-use mathlib.Core.Path.{_≡_, refl, sym, ap, _∙_}
+use mathlib.Core.Path.{refl, sym, ap, _∙_}
 use mathlib.Core.Bool.{Bool, true, false, cond, _&&_}
 use mathlib.Core.List.{List, [], _∷_}
 use mathlib.Core.Option.{Option, none, some}
-use lib.ListN.{length, take}
+use lib.ListN.{take}
 use Rattle.octets.specs.Text.{bytes}
-use Rattle.octets.specs.Outcome.{Outcome, refused, gives, then}
-use Rattle.octets.proofs.Refusals.{Refuses, with-number, not-refused, number-of, only-number, refuses-only, refuses-then, refuses-need, refuses-given}
+use Rattle.octets.specs.Outcome.{Outcome, refused, then}
+use Rattle.octets.specs.Scan.{allOf}
+use Rattle.octets.proofs.Refusals.{Refuses, with-number, not-refused, number-of, only-number, refuses-within, refuses-then, refuses-need, refuses-given}
 use Rattle.response.specs.Head.{Value, Head, headWith, linesAt, headOf}
 use Rattle.response.specs.Status.{statusOf, statedIn}
 use Rattle.response.specs.Location.{filled, locationRight}
-use Rattle.response.specs.Table.{Answer, Script, serves, redirects, redirectsWithDocument, hasDocument, answerFor, tableOf}
+use Rattle.response.specs.Table.{Script, serves, redirects, redirectsWithDocument, hasDocument, answerFor, tableOf}
 use Rattle.response.specs.Response.{named, eachOnce, firstValue, judgedHead, responseOf}
 use Rattle.response.specs.Claims.{NumbersHold, ThenIs25}
 use Rattle.response.specs.declared.table.Action.the-variants.{Serve, Redirect, RedirectDocument, Document}
@@ -50,9 +51,9 @@ unfolding responseOf
 then-is-25 s h n p e = only-number n 25 (judged-25 s h) (sym (ap (λ (o : Outcome Head). then o (judgedHead s)) p) ∙ e)
 
 pub numbers-hold : NumbersHold
-unfolding responseOf headOf
+unfolding responseOf headOf allOf
 numbers-hold s n e =
     number-of {ns = 24 ∷ 25 ∷ []} n
     (refuses-then (refuses-given (headWith 64 (linesAt 0 (take 8192 s))) 24 refl)
-    (λ h. refuses-only (judgedHead s h) 25 refl (λ m. only-number m 25 (judged-25 s h))))
+    (λ h. refuses-within (25 ∷ []) refl (judgedHead s h) (λ m. number-of m (judged-25 s h))))
     e

@@ -2,7 +2,7 @@
 -- Assumes nothing.
 use Prim.Native.Nat.{ℕ, suc, _+_, _≤_}
 use mathlib.Core.Path.{_≡_}
-use mathlib.Core.Bool.{Bool, true, false, cond, _||_}
+use mathlib.Core.Bool.{Bool, true, cond, _||_}
 use mathlib.Core.List.{List, [], _∷_}
 use mathlib.Core.Option.{none, some}
 use lib.Dec.{eqb}
@@ -13,7 +13,7 @@ use Rattle.octets.specs.Kinds.{oneOf, within}
 use Rattle.targets.specs.Target.{targetOf}
 use Rattle.response.specs.Head.{Value, Head, headOf}
 use Rattle.response.specs.Location.{accepted}
-use Rattle.response.specs.Table.{Answer, Script, serves, redirects, redirectsWithDocument, hasDocument, redirecting, tableOf}
+use Rattle.response.specs.Table.{Answer, Script, serves, redirects, redirectsWithDocument, hasDocument, hasLocation, redirecting, tableOf}
 use Rattle.response.specs.Response.{named, firstValue, isThere, responseOf}
 use Rattle.response.specs.declared.table.Action.{Action}
 use Rattle.response.specs.declared.table.Action.the-variants.{Serve, Redirect, RedirectDocument, Document}
@@ -96,14 +96,7 @@ locationIn s a = take (a .locationLength) (drop (a .locationStart) s)
 abbrev pub ServedIsTarget : Type 0
 ServedIsTarget = (s : List ℕ) (a : Answer) → responseOf s ≡ gives a → a .action ≡ Serve → accepted (targetOf (locationIn s a)) ≡ true
 
--- "no Location" stands in one row of the table alone
-abbrev pub hasLocation : Action → Bool
-hasLocation Serve = true
-hasLocation Redirect = true
-hasLocation RedirectDocument = true
-hasLocation Document = false
-
--- so an action tells whether the head has a Location
+-- an action tells whether the head has a Location
 abbrev pub ActionTellsLocation : Type 0
 ActionTellsLocation =
     (s : List ℕ) (h : Head) (a : Answer) → headOf s ≡ gives h → responseOf s ≡ gives a

@@ -109,6 +109,13 @@ redirectsWithDocument x = otherLocation (x .goes) && x .typed && statusRedirecti
 abbrev pub hasDocument : Script → Bool
 hasDocument x = noLocation (x .goes) && x .typed
 
+-- which actions have a Location: "no Location" stands in the row of a document alone
+abbrev pub hasLocation : Action → Bool
+hasLocation Serve = true
+hasLocation Redirect = true
+hasLocation RedirectDocument = true
+hasLocation Document = false
+
 -- "Status or" another
 abbrev pub statusOr : ℕ → Option ℕ → ℕ
 statusOr n none = n

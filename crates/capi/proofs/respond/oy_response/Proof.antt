@@ -3,25 +3,25 @@
 use Prim.Native.Nat.{ℕ}
 use mathlib.Core.Path.{_≡_, sym, ap, _∙_}
 use mathlib.Core.List.{List}
-use Rattle.octets.specs.Outcome.{Outcome, gives, then}
+use Rattle.octets.specs.Outcome.{Outcome, then}
 use Rattle.response.specs.Table.{responseOutcome}
 use Rattle.editions.specs.Edition.{responseBy}
 use Rattle.editions.specs.declared.edition.Edition.{Edition}
-use Rattle.capi.specs.Respond.{editionOf, toldOutcome, answerNumbers, toldResponse}
+use Rattle.capi.specs.Respond.{editionOf, numberedOutcome, answerNumbers, responseFor}
 use Rattle.capi.proofs.Answers.{refusal, gave}
 use borrow.Author.Needs.{needs}
 use Rattle.capi.proofs.respond.oy_response.Statement.{statement}
 use Rattle.capi.proofs.respond.oy_response.Tie as tie
 
 -- what the call makes of the edition's number
-told-by : (n : ℕ) (m s : List ℕ) {o : Outcome Edition} → editionOf n ≡ o → toldResponse n m s ≡ then o (λ e. responseBy e m s)
-told-by n m s p = ap (λ (o : Outcome Edition). then o (λ e. responseBy e m s)) p
+by-edition : (n : ℕ) (m s : List ℕ) {o : Outcome Edition} → editionOf n ≡ o → responseFor n m s ≡ then o (λ e. responseBy e m s)
+by-edition n m s p = ap (λ (o : Outcome Edition). then o (λ e. responseBy e m s)) p
 
 edition-of-requires : tie.Need-edition-of-requires
 edition-of-requires c κs = search needs
 
-enum-known-told : tie.Need-enum-known-told
-enum-known-told c = search needs
+enum-known-n : tie.Need-enum-known-n
+enum-known-n c = search needs
 
 enum-told : tie.Need-enum-told
 enum-told c = search needs
@@ -29,8 +29,8 @@ enum-told c = search needs
 returns : tie.Need-returns
 returns c =
     let b = c .before .before .before .before .before .before in
-    let unknown = sym (c .before .before .edition-of .ensures) ∙ ap toldOutcome (c .enum-told .given .1) in
-    refusal answerNumbers _ 20 (told-by (b .args .edition) (b .args .method .now) (b .args .script .now) unknown)
+    let unknown = sym (c .before .before .edition-of .ensures) ∙ ap numberedOutcome (c .enum-told .given .1) in
+    refusal answerNumbers _ 20 (by-edition (b .args .edition) (b .args .method .now) (b .args .script .now) unknown)
 
 respond-by-requires : tie.Need-respond-by-requires
 respond-by-requires c κs = search needs
@@ -39,11 +39,11 @@ respond-by-requires c κs = search needs
 responded :
     (c : tie.After-respond-by)
     → (let b = c .before .before .before .before .before .before .before .before in
-    toldResponse (b .args .edition) (b .args .method .now) (b .args .script .now) ≡ responseOutcome (c .respond-by .result))
+    responseFor (b .args .edition) (b .args .method .now) (b .args .script .now) ≡ responseOutcome (c .respond-by .result))
 responded c =
     let b = c .before .before .before .before .before .before .before .before in
-    let known = sym (c .before .before .before .before .edition-of .ensures) ∙ ap toldOutcome (c .before .before .told .given .1) in
-    told-by (b .args .edition) (b .args .method .now) (b .args .script .now) known ∙ sym (c .respond-by .ensures)
+    let known = sym (c .before .before .before .before .edition-of .ensures) ∙ ap numberedOutcome (c .before .before .n .given .1) in
+    by-edition (b .args .edition) (b .args .method .now) (b .args .script .now) known ∙ sym (c .respond-by .ensures)
 
 enum-known-r : tie.Need-enum-known-r
 enum-known-r c = search needs
@@ -85,7 +85,7 @@ oy-response-spec =
     tie.close
     (tie.spec
     edition-of-requires
-    enum-known-told
+    enum-known-n
     enum-told
     returns
     respond-by-requires

@@ -1,8 +1,7 @@
 -- `editions::edition::respond_by` meets its contract.
 -- Assumes nothing.
-use mathlib.Core.Path.{_≡_, sym, ap, _∙_}
+use mathlib.Core.Path.{sym, ap, _∙_}
 use borrow.Author.Tests.{not-true, not-false}
-use Rattle.octets.specs.Outcome.{gives}
 use Rattle.response.specs.Table.{responseOutcome}
 use Rattle.editions.proofs.Editions.{kept, not-kept, refusals-stay}
 use borrow.Author.Needs.{needs}
