@@ -32,7 +32,7 @@ DraftExactly =
     → (responseBy Draft method s ≡ gives a)
     ↔ ((responseBy Rfc method s ≡ gives a) × ((locatedIn (headOf s) ≡ false) ⊎ (mayRedirect method ≡ true)))
 
--- "all else .. stays as in 01": what 01 refuses, each edition refuses with 01's number
+-- "all else .. stays as in 01": what 01 refuses is refused with 01's number under each edition
 abbrev pub RefusalsStay : Type 0
 RefusalsStay = (e : Edition) (method s : List ℕ) (n : ℕ) → responseOf s ≡ refused n → responseBy e method s ≡ refused n
 
@@ -40,7 +40,7 @@ RefusalsStay = (e : Edition) (method s : List ℕ) (n : ℕ) → responseOf s �
 abbrev pub NumbersHold : Type 0
 NumbersHold = (e : Edition) (method s : List ℕ) (n : ℕ) → responseBy e method s ≡ refused n → oneOf (24 ∷ 25 ∷ []) n ≡ true
 
--- by each edition the first 8,193 bytes of an output settle all of its answer but the length of the body
+-- under each edition the first 8,193 bytes of an output settle all of its answer but the length of the body
 abbrev pub StreamSettles : Type 0
 StreamSettles =
     (e : Edition) (method s t : List ℕ) → take settling s ≡ take settling t

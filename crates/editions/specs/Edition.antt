@@ -16,7 +16,7 @@ use Rattle.editions.specs.declared.edition.Edition.the-variants.{Rfc, Dr
 abbrev pub mayRedirect : List ℕ → Bool
 mayRedirect method = sameBytes method (bytes "GET") || sameBytes method (bytes "HEAD")
 
--- "a Location": the head has a field of that name
+-- "a Location": the head has a field of that name, letter case aside, whatever its value
 abbrev pub located : Head → Bool
 located h = isThere (firstValue (named (bytes "location") (h .fields)))
 

@@ -49,7 +49,7 @@ fn is_allowed(edition: Edition, method: &[u8], action: Action) -> bool
     may_redirect(method)
 }
 
-// What a script's whole output asks of the server, by the edition, for a request with the method.
+// What a script's whole output asks of the server under the edition, for a request with the method.
 pub fn respond_by(edition: Edition, method: &[u8], s: &[u8]) -> Response
     ensures { λ r. ⌜ responseOutcome r ≡ responseBy edition (now (method .entry)) (now (s .entry)) ⌝ }
 {

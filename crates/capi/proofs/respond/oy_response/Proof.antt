@@ -43,7 +43,8 @@ responded :
 responded c =
     let b = c .before .before .before .before .before .before .before .before in
     let known = sym (c .before .before .before .before .edition-of .ensures) ∙ ap numberedOutcome (c .before .before .n .given .1) in
-    by-edition (b .args .edition) (b .args .method .now) (b .args .script .now) known ∙ sym (c .respond-by .ensures)
+    let gave : responseOutcome (c .respond-by .result) ≡ responseBy (c .before .before .n .given .0 .0) (b .args .method .now) (b .args .script .now) = c .respond-by .ensures in
+    by-edition (b .args .edition) (b .args .method .now) (b .args .script .now) known ∙ sym gave
 
 enum-known-r : tie.Need-enum-known-r
 enum-known-r c = search needs
