@@ -8,7 +8,7 @@ use socket::reader::{Answer, Socket};
 // What a run of bytes gave: the state for the next call; 0 at the end, 1 before it, else the refusal; how many bytes of the run belong to the
 // body and how many come after the end; at the end the lengths of block and body and the bytes used, else 0.
 #[repr(C)]
-#[derive(Drop)]
+#[derive(Clone, Copy)]
 pub struct Fed {
     pub state: Socket,
     pub refusal: u64,

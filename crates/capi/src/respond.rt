@@ -8,7 +8,7 @@ use editions::edition::{Edition, respond_by};
 use response::table::{Action, Response};
 
 // What the number of an edition names.
-#[derive(Drop)]
+#[derive(Clone, Copy)]
 pub enum Numbered {
     Known(Edition),
     // 20

@@ -7,7 +7,7 @@ use octets::compare::same;
 use response::respond::respond;
 use response::table::{Action, Response};
 
-#[derive(Drop)]
+#[derive(Clone, Copy)]
 pub enum Edition {
     // RFC 3875 of 2004.
     Rfc,

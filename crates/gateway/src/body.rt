@@ -3,7 +3,7 @@ ghost use Rattle.std.specs.Prelude.{◌≡◌};
 ghost use Rattle.octets.specs.Outcome.{refusal_of};
 ghost use Rattle.gateway.specs.Body.{length_of, body_outcome};
 
-#[derive(Drop)]
+#[derive(Clone, Copy)]
 pub enum Body {
     // How many bytes it has.
     Bytes(usize),

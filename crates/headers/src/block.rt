@@ -6,7 +6,7 @@ ghost use Rattle.headers.specs.Block.{header_outcome, header_ends, count_outcome
 use bulk::scan::find_soon;
 use octets::scan::find;
 
-#[derive(Drop)]
+#[derive(Clone, Copy)]
 pub enum HeaderPlace {
     // Where the name ends, and where the value, behind the NUL after the name, ends.
     At { name_end: usize, value_end: usize },
@@ -50,7 +50,7 @@ pub fn header_at(block: &[u8], at: usize) -> HeaderPlace
     }
 }
 
-#[derive(Drop)]
+#[derive(Clone, Copy)]
 pub enum Count {
     Headers(usize),
     Refused(u8),

@@ -12,7 +12,7 @@ use octets::kinds::Kind;
 use octets::scan::{find, run_end};
 use octets::trim::{blank_end, kept_len};
 
-#[derive(Drop)]
+#[derive(Clone, Copy)]
 pub enum FieldLine {
     Field {
         name_len: usize,
@@ -49,7 +49,7 @@ pub fn field_line(kinds: &[u8; 256], kind: Kind, line: &[u8]) -> FieldLine
     }
 }
 
-#[derive(Drop)]
+#[derive(Clone, Copy)]
 enum FieldPlace {
     // How long the name is, where the value starts in the head and how long it is, and where the line ends.
     At {
@@ -101,7 +101,7 @@ fn put_four(out: &mut [u64], at: usize, a: usize, b: usize, c: usize, d: usize)
     out[at + 3] = d as u64;
 }
 
-#[derive(Drop)]
+#[derive(Clone, Copy)]
 pub enum Fields {
     Count(usize),
     Refused(u8),

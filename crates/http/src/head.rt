@@ -20,7 +20,7 @@ fn ends_head(s: &[u8], i: usize) -> bool
     s[i + 3] == b'\n'
 }
 
-#[derive(Drop)]
+#[derive(Clone, Copy)]
 enum End {
     At(usize),
     Nowhere,
@@ -100,7 +100,7 @@ fn first_end(s: &[u8]) -> End
     End::Nowhere
 }
 
-#[derive(Drop)]
+#[derive(Clone, Copy)]
 pub enum Head {
     Bytes(usize),
     Refused(u8),

@@ -47,7 +47,7 @@ fn is_version(kinds: &[u8; 256], s: &[u8]) -> bool
     is_kind(kinds, Kind::Digit, s[7])
 }
 
-#[derive(Drop)]
+#[derive(Clone, Copy)]
 enum Version {
     Minor(u8),
     Refused(u8),
@@ -93,7 +93,7 @@ fn minor_version(kinds: &[u8; 256], s: &[u8]) -> Version
     Version::Refused(12)
 }
 
-#[derive(Drop)]
+#[derive(Clone, Copy)]
 pub enum RequestLine {
     Line {
         method_len: usize,

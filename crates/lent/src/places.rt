@@ -1,21 +1,21 @@
 // Where the values stand that connection facts and site settings give.
 
 // A value in the connection facts.
-#[derive(Drop)]
+#[derive(Clone, Copy)]
 pub struct FactPlace {
     pub start: usize,
     pub len: usize,
 }
 
 // A value in the site settings where site is true, else in the connection facts.
-#[derive(Drop)]
+#[derive(Clone, Copy)]
 pub struct ValuePlace {
     pub site: bool,
     pub start: usize,
     pub len: usize,
 }
 
-#[derive(Drop)]
+#[derive(Clone, Copy)]
 pub enum AuthPlaces {
     Given {
         auth_type: FactPlace,
@@ -24,7 +24,7 @@ pub enum AuthPlaces {
     Absent,
 }
 
-#[derive(Drop)]
+#[derive(Clone, Copy)]
 pub struct SettingPlaces {
     pub auth: AuthPlaces,
     pub addr: FactPlace, // REMOTE_ADDR

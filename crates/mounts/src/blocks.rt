@@ -5,7 +5,7 @@ use headers::block::Count;
 use headers::names::{store_names, stored_differ};
 
 // What a block is.
-#[derive(Drop)]
+#[derive(Clone, Copy)]
 pub enum Named {
     // How many headers it has, the places of whose names are stored.
     Headers(usize),
@@ -13,7 +13,7 @@ pub enum Named {
     Breach,
 }
 
-#[derive(Drop)]
+#[derive(Clone, Copy)]
 pub enum Storing {
     Done(Named),
     // The list has no room for all names of the block.

@@ -7,7 +7,7 @@ ghost use Rattle.mounts.specs.Search.{slash_part, shortened, mount_outcome, plac
 use crate::value::{Value, read_value};
 use headers::lookup::{Place, seek};
 
-#[derive(Drop)]
+#[derive(Clone, Copy)]
 pub enum Slash {
     At(usize),
     Absent,
@@ -27,7 +27,7 @@ fn last_slash(path: &[u8]) -> Slash
     Slash::Absent
 }
 
-#[derive(Drop)]
+#[derive(Clone, Copy)]
 pub enum Mount {
     // How long the mount's name is, with which the path begins, where the pool stands in the mounts, and how many bytes a body may have.
     Found {

@@ -6,7 +6,7 @@ use octets::decimal;
 use octets::decimal::Number;
 use octets::scan::find;
 
-#[derive(Drop)]
+#[derive(Clone, Copy)]
 pub enum Value {
     // How long the pool is, which stands at the value's start, and how many bytes a body may have.
     Pool { len: usize, limit: u64 },

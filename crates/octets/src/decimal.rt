@@ -4,7 +4,7 @@ ghost use Rattle.octets.specs.Decimal.{number_of, decimal, number_read};
 ghost use Rattle.octets.specs.Copy.{Wrote};
 
 // What digits say.
-#[derive(Drop)]
+#[derive(Clone, Copy)]
 pub enum Number {
     Value(u64),
     // Not 1 to 10 digits.

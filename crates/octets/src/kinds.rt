@@ -3,7 +3,7 @@ ghost use Rattle.std.specs.Prelude.{◌≡◌};
 ghost use Rattle.octets.specs.Kinds.{is_blank, kind_number, rule};
 ghost use Rattle.octets.specs.KindTable.{table};
 
-#[derive(Drop)]
+#[derive(Clone, Copy)]
 pub enum Kind {
     Digit,
     Hex,

@@ -1,4 +1,6 @@
 // The layer that everything else stands on: kinds of bytes, scans, comparisons, decimal numbers, copying.
+#![tactic(auto)]
+
 pub mod kind_table; // the table of byte kinds
 pub mod kinds; // the kinds, and the question whether a byte is of a kind
 pub mod scan; // where a run of bytes ends, where a byte first stands

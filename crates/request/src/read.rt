@@ -13,7 +13,7 @@ use http::request_line::{RequestLine, request_line};
 use targets::target::{TargetPlace, target};
 
 // Where the parts of a request line stand, and how long the path is.
-#[derive(Drop)]
+#[derive(Clone, Copy)]
 pub struct LinePlaces {
     // How long the line is.
     pub end: usize,
@@ -29,7 +29,7 @@ pub struct LinePlaces {
     pub decoded: usize,
 }
 
-#[derive(Drop)]
+#[derive(Clone, Copy)]
 pub enum Line {
     At(LinePlaces),
     Refused(u8),
@@ -83,7 +83,7 @@ fn read_line(kinds: &[u8; 256], head: &[u8], path: &mut [u8]) -> Line
 }
 
 // What the fields of a request say of it.
-#[derive(Drop)]
+#[derive(Clone, Copy)]
 pub struct FieldPlaces {
     // How many fields there are, whose places are stored.
     pub count: usize,
@@ -95,7 +95,7 @@ pub struct FieldPlaces {
     pub len: usize,
 }
 
-#[derive(Drop)]
+#[derive(Clone, Copy)]
 pub enum Rest {
     At(FieldPlaces),
     Refused(u8),
@@ -141,7 +141,7 @@ fn read_fields(kinds: &[u8; 256], head: &[u8], from: usize, minor: u8, places: &
     })
 }
 
-#[derive(Drop)]
+#[derive(Clone, Copy)]
 pub enum Reading {
     Request {
         line: LinePlaces,

@@ -13,7 +13,7 @@ use octets::decimal;
 use octets::decimal::Number;
 
 // The fields of one name.
-#[derive(Drop)]
+#[derive(Clone, Copy)]
 pub struct Found {
     // How many they are.
     pub count: usize,
@@ -74,7 +74,7 @@ fn host_right(head: &[u8], places: &[u64], n: usize, minor: u8) -> bool
     hosts.count <= 1
 }
 
-#[derive(Drop)]
+#[derive(Clone, Copy)]
 pub enum Stated {
     Length(u64),
     Refused(u8),
@@ -114,7 +114,7 @@ fn content_length(head: &[u8], places: &[u64], n: usize) -> Stated
     Stated::Length(m)
 }
 
-#[derive(Drop)]
+#[derive(Clone, Copy)]
 pub enum Rules {
     // The stated body length; whether there is a Content-Type, and where its value stands.
     Body {

@@ -8,21 +8,21 @@ use http::fields::{FieldLine, field_line};
 use octets::compare::same_letters;
 use octets::kinds::Kind;
 
-#[derive(Drop)]
+#[derive(Clone, Copy)]
 pub enum Mark {
     Absent,
     Once { start: usize, len: usize },
     Twice,
 }
 
-#[derive(Drop)]
+#[derive(Clone, Copy)]
 pub struct Seen {
     pub content: Mark,
     pub location: Mark,
     pub status: Mark,
 }
 
-#[derive(Drop)]
+#[derive(Clone, Copy)]
 pub enum LineStep {
     Next(Seen),
     Malformed,

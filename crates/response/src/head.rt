@@ -8,7 +8,7 @@ use crate::fields::{LineStep, Mark, Seen, line_step};
 use crate::lines::bare_end;
 use octets::scan::find;
 
-#[derive(Drop)]
+#[derive(Clone, Copy)]
 pub enum HeadPlace {
     Ends {
         end: usize,

@@ -2,6 +2,8 @@
 //
 // How often a head is passed over: once for its LFs, and once line by line for its fields (http::fields::field_line). A name is compared
 // with three names, and of the three fields the values are judged at the end.
+#![tactic(auto)]
+
 pub mod lines; // where a line of the head ends
 pub mod fields; // the three fields that the server looks at
 pub mod head; // the fields of the head, and where it ends

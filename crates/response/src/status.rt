@@ -7,7 +7,7 @@ use crate::fields::Mark;
 use octets::decimal;
 use octets::decimal::Number;
 
-#[derive(Drop)]
+#[derive(Clone, Copy)]
 pub enum Stated {
     // The status, or 0 where there is no Status.
     Code(u64),

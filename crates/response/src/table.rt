@@ -9,7 +9,7 @@ ghost use Rattle.response.specs.Table.{redirecting, nowhere, local, elsewhere, s
 
 use crate::fields::Mark;
 
-#[derive(Drop)]
+#[derive(Clone, Copy)]
 pub enum Action {
     Serve,
     Redirect,
@@ -17,7 +17,7 @@ pub enum Action {
     Document,
 }
 
-#[derive(Drop)]
+#[derive(Clone, Copy)]
 pub enum Response {
     Answer {
         action: Action,

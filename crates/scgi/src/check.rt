@@ -13,7 +13,7 @@ use octets::compare::same;
 use octets::decimal;
 use octets::decimal::Number;
 
-#[derive(Drop)]
+#[derive(Clone, Copy)]
 pub enum Stated {
     Length(u64),
     Refused(u8),
@@ -72,7 +72,7 @@ fn has_scgi(block: &[u8], places: &[usize], n: usize) -> bool
     same(&block[start..start + len], b"1")
 }
 
-#[derive(Drop)]
+#[derive(Clone, Copy)]
 pub enum Checked {
     // The body length that the block states.
     Body(usize),

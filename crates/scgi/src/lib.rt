@@ -1,4 +1,6 @@
 // SCGI requests: what is asked of their block, the reader, the writer, requests end to end.
+#![tactic(auto)]
+
 pub mod netstring; // the length digits of a netstring
 pub mod check; // what is asked of a whole block
 pub mod read; // the reader of requests

@@ -3,7 +3,7 @@ ghost use Rattle.std.specs.Prelude.{◌≡◌, ◌+◌, ◌≤◌};
 ghost use Rattle.octets.specs.Outcome.{refusal_of};
 ghost use Rattle.scgi.specs.Netstring.{digits_outcome, digits_from, length_outcome, length_of};
 
-#[derive(Drop)]
+#[derive(Clone, Copy)]
 pub enum Digits {
     // How many digits there are, the number that they say, and whether the colon came behind them.
     Read {
@@ -75,7 +75,7 @@ pub fn read_digits(s: &[u8], count: usize, value: usize) -> Digits
     }
 }
 
-#[derive(Drop)]
+#[derive(Clone, Copy)]
 pub enum Length {
     // The length, and the place after the colon.
     Value { len: usize, next: usize },

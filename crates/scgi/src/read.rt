@@ -6,7 +6,7 @@ ghost use Rattle.scgi.specs.Read.{reading_outcome, read_of};
 use crate::check::{Checked, check_block};
 use crate::netstring::{Length, read_length};
 
-#[derive(Drop)]
+#[derive(Clone, Copy)]
 pub enum Reading {
     Request {
         block_start: usize,

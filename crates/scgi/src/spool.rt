@@ -8,14 +8,14 @@ ghost use Rattle.scgi.specs.Read.{used_of};
 use crate::read::{Reading, read};
 
 // How requests end where none is refused.
-#[derive(Drop)]
+#[derive(Clone, Copy)]
 pub enum Stop {
     Whole,
     Cut,
     Full,
 }
 
-#[derive(Drop)]
+#[derive(Clone, Copy)]
 pub enum Ending {
     Stopped(Stop),
     Refused(u8),
@@ -33,7 +33,7 @@ impl Ending {
     }
 }
 
-#[derive(Drop)]
+#[derive(Clone, Copy)]
 pub struct Spooled {
     // How many lengths are stored.
     pub count: usize,
@@ -52,7 +52,7 @@ fn refusal_ending(k: u8) -> Ending
     Ending::Refused(k)
 }
 
-#[derive(Drop)]
+#[derive(Clone, Copy)]
 pub enum Used {
     Bytes(usize),
     Refused(u8),

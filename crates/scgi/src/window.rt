@@ -6,7 +6,7 @@ ghost use Rattle.scgi.specs.Window.{next_of, TurnDone};
 use crate::spool::{Ending, Stop, spool};
 
 // What comes after a turn.
-#[derive(Drop)]
+#[derive(Clone, Copy)]
 pub enum Next {
     // The bytes behind the taken ones, and more input behind them.
     More,
@@ -17,7 +17,7 @@ pub enum Next {
     Refused(u8),
 }
 
-#[derive(Drop)]
+#[derive(Clone, Copy)]
 pub struct Turn {
     // How many lengths are stored.
     pub count: usize,

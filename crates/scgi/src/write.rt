@@ -10,7 +10,7 @@ use bulk::copy::put_large;
 use octets::copy::put;
 use octets::decimal;
 
-#[derive(Drop)]
+#[derive(Clone, Copy)]
 pub enum Writing {
     // How many bytes were written.
     Bytes(usize),

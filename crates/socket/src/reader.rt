@@ -22,7 +22,7 @@ const REFUSED: usize = 4;
 
 // Numbers alone, so that a C program can keep it.
 #[repr(C)]
-#[derive(Drop)]
+#[derive(Clone, Copy)]
 pub struct Socket {
     pub stage: usize,
     // The refusal, where the stage says so.
@@ -37,7 +37,7 @@ pub struct Socket {
     pub seen: usize,
 }
 
-#[derive(Drop)]
+#[derive(Clone, Copy)]
 pub enum Answer {
     // The request is whole. Its block stands at the front of the buffer.
     Request {
@@ -65,7 +65,7 @@ impl Answer {
 }
 
 // The state after a run, beside the answer and the run's counts.
-#[derive(Drop)]
+#[derive(Clone, Copy)]
 pub struct Taken {
     pub state: Socket,
     pub answer: Answer,

@@ -2,6 +2,8 @@
 // spool ends. What the bytes in the window give, and whether the window goes on, is decided by scgi::window::advance.
 // A read or a write that fails is said on standard error and ends the program without an ending line: the last line is an
 // ending only where every byte was read and every line before it was written.
+#![tactic(auto)]
+
 mod print; // lengths, endings and complaints
 
 ghost use Rattle.std.specs.Prelude.{◌≡◌, ◌≤◌, ◌<◌, length};
@@ -12,7 +14,7 @@ use octets::copy::move_front;
 use scgi::window::{Next, advance};
 
 // How the reading stands.
-#[derive(Drop)]
+#[derive(Clone, Copy)]
 pub enum Input {
     // Bytes may still come.
     Going,
@@ -22,7 +24,7 @@ pub enum Input {
     Done,
 }
 
-#[derive(Drop)]
+#[derive(Clone, Copy)]
 pub struct State {
     // How many bytes at the front of the window hold input.
     pub held: usize,

@@ -73,7 +73,7 @@ fn hex_value(b: u8) -> u8
 }
 
 // A decoded byte, and the place after the byte or the escape that it comes from.
-#[derive(Drop)]
+#[derive(Clone, Copy)]
 struct Step {
     byte: u8,
     next: usize,

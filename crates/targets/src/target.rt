@@ -15,7 +15,7 @@ use octets::kinds::Kind;
 use octets::scan::{find, run_end};
 
 // What a target is found to be.
-#[derive(Drop)]
+#[derive(Clone, Copy)]
 pub enum TargetPlace {
     // The path is the first path_len bytes of the target, and decoded the first decoded_len bytes of the buffer.
     Path { path_len: usize, decoded_len: usize },
@@ -38,7 +38,7 @@ impl TargetPlace {
 }
 
 // What a target is found to be before it is decoded.
-#[derive(Drop)]
+#[derive(Clone, Copy)]
 enum Raw {
     Path { path_len: usize, slashes: usize },
     Refused(u8),

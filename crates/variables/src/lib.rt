@@ -1,4 +1,6 @@
 // The variables of a request, and their bytes.
+#![tactic(auto)]
+
 pub mod sources; // where their values stand
 pub mod put; // variables, written one after the other
 pub mod fixed_variables; // the variables before the fields

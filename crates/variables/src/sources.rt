@@ -2,7 +2,7 @@
 use lent::places::SettingPlaces;
 use request::read::{FieldPlaces, LinePlaces};
 
-#[derive(Drop)]
+#[derive(Clone, Copy)]
 pub struct Sources {
     pub settings: SettingPlaces,
     pub line: LinePlaces,

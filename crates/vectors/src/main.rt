@@ -1,5 +1,7 @@
 // Runs the proved calls on the byte cases of the scope paper and of the SCGI text of 2008, and prints what each gives.
 // The file stdout holds what they must give.
+#![tactic(auto)]
+
 mod print; // words and numbers on standard output
 mod scgi_cases; // the reader and the writer
 mod lookup_cases; // the lookups in one block and in two

@@ -1,0 +1,52 @@
+use mathlib.Core.Path.{sym, ◌∙◌}
+use Prim.Native.Nat.{◌-◌}
+use native.Mathlib.Omega.{arith}
+use borrow.Author.Rules.{rules}
+use Rattle.octets.proofs.Decimals.{ten_to, number-empty, number-long, number-some}
+use Rattle.octets.proofs.DecimalLoops.{ten-more, ten-most, below-digits, above-digits, digit-more, number-end}
+use Rattle.octets.proofs.decimal.read.Goals as goal
+
+pub returns-then-s-eq0 : goal.returns-then-s-eq0
+returns-then-s-eq0 c = sym (number-empty c.args.s.now c.if-s-eq0.true)
+
+pub returns-then-s-gt10 : goal.returns-then-s-gt10
+returns-then-s-gt10 c = sym (number-long c.args.s.now c.if-s-gt10.true)
+
+pub loop-i-init : goal.loop-i-init
+unfolding ten_to
+loop-i-init c = (search rules, c.if-s-gt10.false, omega arith, number-some _ (omega arith) c.if-s-gt10.false)
+
+pub returns-then-b-lt48 : goal.returns-then-b-lt48
+returns-then-b-lt48 c =
+    let l = c.loop-i in
+    sym (l.invariant.3 ∙ below-digits _ _ _ c.loop-i-test.true c.if-b-lt48.true)
+
+pub returns-then-b-gt57 : goal.returns-then-b-gt57
+returns-then-b-gt57 c =
+    let l = c.loop-i in
+    sym (l.invariant.3 ∙ above-digits _ _ _ c.loop-i-test.true c.if-b-gt57.true)
+
+pub overflow_mul-v : goal.overflow_mul-v
+overflow_mul-v c =
+    let l = c.loop-i in
+    omega (arith, ten-most l.i l.v l.invariant.2 (omega arith))
+
+pub overflow_add-v : goal.overflow_add-v
+overflow_add-v c =
+    let l = c.loop-i in
+    omega (arith, ten-most l.i l.v l.invariant.2 (omega arith))
+
+pub loop-i-smaller : goal.loop-i-smaller
+loop-i-smaller c = omega arith
+
+pub loop-i-preserved : goal.loop-i-preserved
+loop-i-preserved c =
+    (
+      omega arith,
+      c.loop-i.invariant.1,
+      ten-more _ _ _ c.loop-i.invariant.2 (omega arith),
+      c.loop-i.invariant.3 ∙ digit-more _ _ _ c.loop-i-test.true c.if-b-lt48.false c.if-b-gt57.false,
+    )
+
+pub returns : goal.returns
+returns c = sym (c.loop-i.invariant.3 ∙ number-end _ _ _ c.loop-i-test.false)

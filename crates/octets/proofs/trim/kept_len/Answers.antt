@@ -1,0 +1,25 @@
+use mathlib.Core.Path.{sym, ap, ◌∙◌}
+use native.Mathlib.Omega.{arith}
+use lib.ListN.{drop}
+use Rattle.octets.specs.Trim.{kept}
+use Rattle.octets.proofs.Lists.{from}
+use Rattle.octets.proofs.Trims.{last-blank, last-kept, kept-take}
+use Rattle.octets.proofs.trim.kept_len.Goals as goal
+
+pub loop-n-init : goal.loop-n-init
+loop-n-init c = (omega arith, sym (ap kept (from c.args.s.now c.args.from)))
+
+pub returns-then-not-is_blank : goal.returns-then-not-is_blank
+returns-then-not-is_blank c =
+    sym (c.loop-n.invariant.1 ∙ last-kept _ _ _ c.loop-n-test.true c.loop-n.invariant.0 (sym c.is_blank.ensures ∙ c.if-not-is_blank.true))
+
+pub loop-n-smaller : goal.loop-n-smaller
+loop-n-smaller c = omega arith
+
+pub loop-n-preserved : goal.loop-n-preserved
+loop-n-preserved c =
+    (omega arith, c.loop-n.invariant.1 ∙ last-blank _ _ _ c.loop-n-test.true c.loop-n.invariant.0 (sym c.is_blank.ensures ∙ c.if-not-is_blank.false))
+
+pub returns : goal.returns
+returns c =
+    omega (arith, kept-take c.loop-n.n (drop c.args.from c.args.s.now), c.loop-n.invariant.1)
