@@ -11,7 +11,7 @@ use Rattle.octets.proofs.Alls.{all_after}
 use Rattle.octets.proofs.Decimals.{ten-digits}
 use Rattle.headers.specs.Block.{here, later}
 use Rattle.scgi.specs.Grammar.{first, IsRequest}
-use Rattle.http.proofs.Claims.{heads-hold}
+use Rattle.http_head.proofs.Claims.{heads-hold}
 use Rattle.targets.specs.Target.{Target, target_of}
 use Rattle.mounts.specs.Mounts.{Mount, Route, mount_for, route_of}
 use Rattle.lent.specs.Lent.{Lent, lent_of}

@@ -9,7 +9,7 @@ use lib.ListN.{length, take, drop, length-take}
 use borrow.Author.Tests.{le-leb, leb-true}
 use Rattle.octets.specs.Outcome.{Outcome, gives, need}
 use Rattle.octets.proofs.Outcomes.{Given, need-gives, gives-once, then-gives}
-use Rattle.http.specs.Head.{head_of}
+use Rattle.http_head.specs.Head.{head_of}
 use Rattle.mounts.specs.Mounts.{Mount, mount_for, route_of}
 use Rattle.lent.specs.Lent.{Lent}
 use Rattle.variables.specs.Meaning.{meaning_of}

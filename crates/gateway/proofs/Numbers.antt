@@ -8,8 +8,8 @@ use lib.ListN.{length, take, drop}
 use Rattle.octets.specs.Outcome.{Outcome}
 use Rattle.octets.specs.Scan.{all_of}
 use Rattle.octets.proofs.Refusals.{Refuses, not_refused, number-of, refuses-within, refuses-only, refuses-then, refuses-need, refuses-given}
-use Rattle.http.specs.Head.{head_of}
-use Rattle.http.proofs.Claims as Http
+use Rattle.http_head.specs.Head.{head_of}
+use Rattle.http_head.proofs.Claims as Http
 use Rattle.mounts.specs.Mounts.{mount_of}
 use Rattle.lent.specs.Lent.{Lent, lent_of}
 use Rattle.lent.proofs.Claims.{lent-number}

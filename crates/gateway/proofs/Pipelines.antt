@@ -12,8 +12,8 @@ use Rattle.octets.specs.Outcome.{Outcome, refused, gives}
 use Rattle.framing.proofs.Keeps.{Keeps, same, keeps_then, keeps-cond, keeps-end, keeps-unless, kept, Steady, steady-frames, still-leb}
 use Rattle.framing.proofs.Spools.{spools-equal, spool-cut}
 use Rattle.framing.proofs.SpoolSteps.{spool-goes-on}
-use Rattle.http.specs.Head.{head_of}
-use Rattle.http.proofs.Claims.{heads-hold}
+use Rattle.http_head.specs.Head.{head_of}
+use Rattle.http_head.proofs.Claims.{heads-hold}
 use Rattle.mounts.specs.Mounts.{mount_for}
 use Rattle.lent.specs.Lent.{Lent, lent_of}
 use Rattle.request.specs.Request.{request_of}

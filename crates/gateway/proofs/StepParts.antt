@@ -16,8 +16,8 @@ use Rattle.headers.specs.Block.{printed}
 use Rattle.scgi.specs.Write.{in_room, writing_outcome, output_after, WrittenOut}
 use Rattle.scgi.specs.declared.write.Writing.{Writing}
 use Rattle.scgi.specs.declared.write.Writing.TheVariants.{Bytes, Refused as WriteRefused}
-use Rattle.http.specs.Head.{head_of}
-use Rattle.http.specs.Fields.{fields_at}
+use Rattle.http_head.specs.Head.{head_of}
+use Rattle.http_head.specs.Fields.{fields_at}
 use Rattle.mounts.specs.Mounts.{Mount, Route, mounts_of, mount_of, mount_for, route_of}
 use Rattle.mounts.specs.Search.{MountPlace, place_of, search_of, mount_outcome}
 use Rattle.mounts.specs.declared.search.Mount.TheVariants.{Found, Refused as MountRefused}

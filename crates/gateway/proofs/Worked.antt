@@ -18,12 +18,12 @@ use Rattle.headers.specs.Lookup.{value_in}
 use Rattle.scgi.specs.Check.{has, check_block}
 use Rattle.scgi.specs.Netstring.{digits_from}
 use Rattle.scgi.specs.Read.{read_of}
-use Rattle.http.specs.Head.{end_from, head_of}
-use Rattle.http.specs.Lines.{lines_from}
-use Rattle.http.specs.RequestLine.{is_method, is_version, version_of, request_line_of}
+use Rattle.http_head.specs.Head.{end_from, head_of}
+use Rattle.http_head.specs.Lines.{lines_from}
+use Rattle.http_head.specs.RequestLine.{is_method, is_version, version_of, request_line_of}
 use Rattle.targets.specs.Escape.{escapes_right, hex_value, decoded_from}
 use Rattle.targets.specs.Target.{path_of, query_of, raw_right, no_dots, segments_right, decoded_right, target_of}
-use Rattle.http.specs.Fields.{Field, field_of, each_field}
+use Rattle.http_head.specs.Fields.{Field, field_of, each_field}
 use Rattle.lent.specs.Settings.{settings_of}
 use Rattle.mounts.specs.Value.{value_of}
 use Rattle.mounts.specs.Mounts.{begins, ends, mounts_from, mounts_of, mount_of}

@@ -3,7 +3,7 @@
 use Rattle.std.specs.Prelude.{ℕ, ◌+◌, ◌-◌, List, leb, length, take, drop}
 use Rattle.octets.specs.Outcome.{Outcome, gives, then, need}
 use Rattle.scgi.specs.Grammar.{encoded}
-use Rattle.http.specs.Head.{head_of}
+use Rattle.http_head.specs.Head.{head_of}
 use Rattle.lent.specs.Settings.{Settings}
 use Rattle.mounts.specs.Mounts.{Mount, Route, mount_for, route_of}
 use Rattle.lent.specs.Lent.{Lent, lent_of}

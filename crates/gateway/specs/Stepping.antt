@@ -5,9 +5,9 @@ use Rattle.octets.specs.Outcome.{Outcome, refused, gives, then}
 use Rattle.scgi.specs.Write.{output_after}
 use Rattle.scgi.specs.declared.write.Writing.{Writing}
 use Rattle.scgi.specs.declared.write.Writing.TheVariants.{Bytes, Refused as WriteRefused}
-use Rattle.http.specs.Head.{head_of, head_outcome}
-use Rattle.http.specs.declared.head.Head.{Head}
-use Rattle.http.specs.declared.head.Head.TheVariants.{Bytes as HeadBytes, Refused as HeadRefused}
+use Rattle.http_head.specs.Head.{head_of, head_outcome}
+use Rattle.http_head.specs.declared.head.Head.{Head}
+use Rattle.http_head.specs.declared.head.Head.TheVariants.{Bytes as HeadBytes, Refused as HeadRefused}
 use Rattle.gateway.specs.Step.{Forward}
 use Rattle.gateway.specs.declared.step.Stepping.{Stepping}
 use Rattle.gateway.specs.declared.step.Stepping.TheVariants.{Written, Refused}

@@ -12,7 +12,7 @@ use lib.Dec.{eqb, ltb}
 use lib.ListN.{length, take, drop, get_or, length-append, get_or-append}
 use borrow.Author.Tests.{lt-ltb, eqb-true, eqb-false}
 use Rattle.octets.specs.Compare.{lower_of, same_letters}
-use Rattle.http.specs.Fields.{Field, field_at, fields_at, Inside, AllInside}
+use Rattle.http_head.specs.Fields.{Field, field_at, fields_at, Inside, AllInside}
 use Rattle.request.specs.Named.{lowered, values_of, first_found}
 use Rattle.request.specs.Rules.{with_field, found_of}
 use Rattle.request.specs.RequestRead.{part_if}

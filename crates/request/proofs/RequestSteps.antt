@@ -16,14 +16,14 @@ use Rattle.octets.specs.Copy.{over}
 use Rattle.octets.proofs.Compares.{same_true}
 use Rattle.octets.proofs.Lists.{part-take}
 use Rattle.octets.proofs.Outcomes.{Gave, need-gives, gives-once, then-gives}
-use Rattle.http.specs.Lines.{lines_of, line_run}
-use Rattle.http.specs.RequestLine as RequestLine
-use Rattle.http.specs.RequestLine.{FirstLine, LineParts, line_places, line_places_of, request_line_of, version_text, is_served}
-use Rattle.http.specs.Fields.{Field, fields_of, places_from, places_of, fields_at, Stored}
-use Rattle.http.specs.Claims.{LineStands, FieldsStand}
-use Rattle.http.specs.declared.request_line.RequestLine.TheVariants.{Line, Refused as LineMalformed}
-use Rattle.http.specs.declared.fields.Fields.TheVariants.{Count, Refused as FieldsRefused}
-use Rattle.http.proofs.Claims.{first-line-stands, line-is-made, lines-told, fields_told}
+use Rattle.http_head.specs.Lines.{lines_of, line_run}
+use Rattle.http_head.specs.RequestLine as RequestLine
+use Rattle.http_head.specs.RequestLine.{FirstLine, LineParts, line_places, line_places_of, request_line_of, version_text, is_served}
+use Rattle.http_head.specs.Fields.{Field, fields_of, places_from, places_of, fields_at, Stored}
+use Rattle.http_head.specs.Claims.{LineStands, FieldsStand}
+use Rattle.http_head.specs.declared.request_line.RequestLine.TheVariants.{Line, Refused as LineMalformed}
+use Rattle.http_head.specs.declared.fields.Fields.TheVariants.{Count, Refused as FieldsRefused}
+use Rattle.http_head.proofs.Claims.{first-line-stands, line-is-made, lines-told, fields_told}
 use Rattle.targets.specs.Escape.{decoded}
 use Rattle.targets.specs.Target.{Target, path_of, raw_right, target_of, Lengths, written, TargetRead}
 use Rattle.targets.specs.declared.target.TargetPlace.TheVariants.{Path, Refused as TargetRefused}

@@ -16,13 +16,13 @@ use Rattle.octets.specs.Copy.{over}
 use Rattle.octets.proofs.Lists.{part-take}
 use Rattle.octets.proofs.Outcomes.{gives-once, then-gives}
 use Rattle.octets.proofs.Refusals.{Refuses, with_number, not_refused, number-of, refuses-within, refuses-only, refuses-then, refuses-need, refuses-given}
-use Rattle.http.specs.Lines.{lines_of, line_run}
-use Rattle.http.specs.RequestLine.{FirstLine, request_line_of, version_text, line_places}
-use Rattle.http.specs.Fields.{Field, fields_of, places_of, fields_at, Stored}
-use Rattle.http.specs.Claims.{LineStands, FieldsStand}
-use Rattle.http.specs.declared.fields.Fields.TheVariants.{Count}
-use Rattle.http.proofs.Claims as Http
-use Rattle.http.proofs.Claims.{first-line-stands, line-is-made, lines-told, fields_obey, fields_told}
+use Rattle.http_head.specs.Lines.{lines_of, line_run}
+use Rattle.http_head.specs.RequestLine.{FirstLine, request_line_of, version_text, line_places}
+use Rattle.http_head.specs.Fields.{Field, fields_of, places_of, fields_at, Stored}
+use Rattle.http_head.specs.Claims.{LineStands, FieldsStand}
+use Rattle.http_head.specs.declared.fields.Fields.TheVariants.{Count}
+use Rattle.http_head.proofs.Claims as Http
+use Rattle.http_head.proofs.Claims.{first-line-stands, line-is-made, lines-told, fields_obey, fields_told}
 use Rattle.targets.specs.Escape.{decoded}
 use Rattle.targets.specs.Target.{Target, path_of, query_of, target_of, written}
 use Rattle.targets.specs.Claims.{Told}

@@ -14,8 +14,8 @@ use Rattle.octets.specs.Text.{bytes}
 use Rattle.octets.specs.Outcome.{Outcome, refused, gives, then, need, given}
 use Rattle.octets.specs.Compare.{same_bytes, lower_of}
 use Rattle.octets.specs.Decimal.{number_of}
-use Rattle.http.specs.RequestLine.{version_text}
-use Rattle.http.specs.Fields.{Field, fields_at, AllInside}
+use Rattle.http_head.specs.RequestLine.{version_text}
+use Rattle.http_head.specs.Fields.{Field, fields_at, AllInside}
 use Rattle.request.specs.Named.{lowered, values_of}
 use Rattle.request.specs.Request.{host_right, stated_by, content_of, rules_of}
 use Rattle.request.specs.Rules.{found_of, judged, judged_of}

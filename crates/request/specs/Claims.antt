@@ -4,9 +4,9 @@ use Rattle.std.specs.Prelude.{ℕ, ◌≤◌, ◌≡◌, true, List, [], ◌∷�
 use Rattle.octets.specs.Outcome.{refused, gives}
 use Rattle.octets.specs.Kinds.{one_of, is_name}
 use Rattle.octets.specs.Lists.{All}
-use Rattle.http.specs.Lines.{lines_of}
-use Rattle.http.specs.Fields.{fields_of}
-use Rattle.http.specs.Claims.{Reads, Clean}
+use Rattle.http_head.specs.Lines.{lines_of}
+use Rattle.http_head.specs.Fields.{fields_of}
+use Rattle.http_head.specs.Claims.{Reads, Clean}
 use Rattle.targets.specs.Target.{Target, target_of}
 use Rattle.targets.specs.Claims.{Accepted}
 use Rattle.request.specs.Named.{lowered}

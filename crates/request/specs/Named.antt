@@ -3,7 +3,7 @@
 use Rattle.std.specs.Prelude.{ℕ, cond, List, [], ◌∷◌, map}
 use Rattle.std.proofs.Math.Option.{Option, none, some}
 use Rattle.octets.specs.Compare.{same_bytes, lower_of}
-use Rattle.http.specs.Fields.{Field}
+use Rattle.http_head.specs.Fields.{Field}
 
 -- "compared letter case aside": the fields with their names in lower case, in order
 abbrev pub lowered : List Field → List Field

@@ -6,10 +6,10 @@ use Rattle.octets.specs.Outcome.{Outcome, refused, gives, then, need, given}
 use Rattle.octets.specs.Kinds.{is_name}
 use Rattle.octets.specs.Compare.{same_bytes}
 use Rattle.octets.specs.Decimal.{number_of}
-use Rattle.http.specs.Lines.{lines_of}
-use Rattle.http.specs.RequestLine.{FirstLine, request_line_of}
+use Rattle.http_head.specs.Lines.{lines_of}
+use Rattle.http_head.specs.RequestLine.{FirstLine, request_line_of}
 use Rattle.targets.specs.Target.{target_of}
-use Rattle.http.specs.Fields.{Field, fields_of}
+use Rattle.http_head.specs.Fields.{Field, fields_of}
 use Rattle.request.specs.Named.{lowered, values_of}
 
 -- The rules over all fields; fs are the fields with their names in lower case, so that names are "compared letter case aside".

@@ -6,9 +6,9 @@ use Rattle.octets.specs.Text.{bytes}
 use Rattle.octets.specs.Outcome.{Outcome, refused, gives, then}
 use Rattle.octets.specs.Kinds.{is_name}
 use Rattle.octets.specs.Copy.{over}
-use Rattle.http.specs.Lines.{lines_of, line_run}
-use Rattle.http.specs.RequestLine.{FirstLine, request_line_of, version_text}
-use Rattle.http.specs.Fields.{Field, fields_of, places_of, fields_at, AllInside}
+use Rattle.http_head.specs.Lines.{lines_of, line_run}
+use Rattle.http_head.specs.RequestLine.{FirstLine, request_line_of, version_text}
+use Rattle.http_head.specs.Fields.{Field, fields_of, places_of, fields_at, AllInside}
 use Rattle.targets.specs.Escape.{decoded}
 use Rattle.targets.specs.Target.{path_of, query_of, target_of}
 use Rattle.request.specs.Named.{lowered, values_of, first_found}

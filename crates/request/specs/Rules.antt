@@ -4,7 +4,7 @@ use Rattle.std.specs.Prelude.{ℕ, zero, suc, ◌+◌, ◌*◌, Bool, cond, List
 use Rattle.octets.specs.Text.{bytes}
 use Rattle.octets.specs.Outcome.{Outcome, refused, gives, then}
 use Rattle.octets.specs.Compare.{same_letters}
-use Rattle.http.specs.Fields.{field_at, fields_at}
+use Rattle.http_head.specs.Fields.{field_at, fields_at}
 use Rattle.request.specs.Named.{lowered}
 use Rattle.request.specs.Request.{rules_of}
 use Rattle.request.specs.declared.rules.Found.{Found}

@@ -2,14 +2,14 @@
 ghost use Rattle.std.specs.Prelude.{◌≡◌, min, ◌≤◌, length};
 ghost use Rattle.octets.specs.Outcome.{refusal_of};
 ghost use Rattle.octets.specs.KindTable.{table};
-ghost use Rattle.http.specs.Lines.{line_run};
-ghost use Rattle.http.specs.RequestLine.{version_text};
+ghost use Rattle.http_head.specs.Lines.{line_run};
+ghost use Rattle.http_head.specs.RequestLine.{version_text};
 ghost use Rattle.request.specs.RequestRead.{line_outcome, LineRead, rest_outcome, FieldsRead, reading_outcome, RequestRead};
 
 use crate::rules::{Rules, check_rules};
-use http::fields::{Fields, field_lines};
-use http::lines::line_end;
-use http::request_line::{RequestLine, request_line};
+use http_head::fields::{Fields, field_lines};
+use http_head::lines::line_end;
+use http_head::request_line::{RequestLine, request_line};
 use targets::target::{TargetPlace, target};
 
 // Where the parts of a request line stand, and how long the path is.

@@ -2,8 +2,8 @@
 ghost use Rattle.std.specs.Prelude.{◌≡◌, ◌+◌, ◌*◌, ◌≤◌, length};
 ghost use Rattle.octets.specs.Text.{bytes};
 ghost use Rattle.octets.specs.Outcome.{refusal_of};
-ghost use Rattle.http.specs.RequestLine.{version_text};
-ghost use Rattle.http.specs.Fields.{Inside, AllInside, fields_at};
+ghost use Rattle.http_head.specs.RequestLine.{version_text};
+ghost use Rattle.http_head.specs.Fields.{Inside, AllInside, fields_at};
 ghost use Rattle.request.specs.Named.{lowered, values_of};
 ghost use Rattle.request.specs.Request.{host_right, stated_by};
 ghost use Rattle.request.specs.Rules.{with_field, found_of, stated_outcome, rules_outcome, judged_of};

@@ -2,7 +2,7 @@
 ghost use Rattle.std.specs.Prelude.{◌≡◌, ◌+◌, ◌*◌, ◌<◌, length, get_or};
 ghost use Rattle.octets.specs.Lies.{LiesAt};
 ghost use Rattle.octets.specs.Compare.{same_letters};
-ghost use Rattle.http.specs.Fields.{field_at, Inside};
+ghost use Rattle.http_head.specs.Fields.{field_at, Inside};
 
 use octets::compare::equal_letters;
 

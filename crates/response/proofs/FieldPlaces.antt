@@ -7,10 +7,10 @@ use mathlib.Core.Option.{Option, none, some}
 use native.Mathlib.Omega.{arith}
 use lib.ListN.{length, take, drop, length-take, length-drop}
 use Rattle.octets.specs.Kinds.{is_token}
-use Rattle.http.specs.Fields.{Field, FieldNumbers, field_of, name_length, value_start, value_length, numbers_if, numbers_of, line_option}
-use Rattle.http.specs.Claims.{FieldStands}
-use Rattle.http.specs.declared.fields.FieldLine.TheVariants.{Field as LineField, Malformed}
-use Rattle.http.proofs.Claims.{fields-have-numbers}
+use Rattle.http_head.specs.Fields.{Field, FieldNumbers, field_of, name_length, value_start, value_length, numbers_if, numbers_of, line_option}
+use Rattle.http_head.specs.Claims.{FieldStands}
+use Rattle.http_head.specs.declared.fields.FieldLine.TheVariants.{Field as LineField, Malformed}
+use Rattle.http_head.proofs.Claims.{fields-have-numbers}
 use Rattle.response.specs.Head.{field_in}
 use Rattle.response.specs.Seen.{see_of, seen_with}
 use Rattle.response.specs.declared.fields.Seen.{Seen}

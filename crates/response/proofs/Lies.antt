@@ -17,7 +17,7 @@ use Rattle.octets.proofs.Alls.{all-implies}
 use Rattle.octets.proofs.Lists.{part-take}
 use Rattle.octets.proofs.Outcomes.{given-gives}
 use Rattle.octets.proofs.Parting.{joined_by, parts-of}
-use Rattle.http.specs.Fields.{Field, field_of, value_start}
+use Rattle.http_head.specs.Fields.{Field, field_of, value_start}
 use Rattle.response.specs.Head.{
   bare_length,
   bare,

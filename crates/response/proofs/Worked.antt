@@ -17,7 +17,7 @@ use Rattle.octets.specs.Decimal.{number_from}
 use Rattle.octets.specs.Parts.{parted}
 use Rattle.targets.specs.Escape.{escapes_right, hex_value, decoded_from}
 use Rattle.targets.specs.Target.{path_of, query_of, raw_right, no_dots, segments_right, decoded_right, target_of}
-use Rattle.http.specs.Fields.{field_of}
+use Rattle.http_head.specs.Fields.{field_of}
 use Rattle.response.specs.Head.{bare_length, lines_from, fields_of, head_of}
 use Rattle.response.specs.Status.{three_alone, status_of}
 use Rattle.response.specs.Location.{is_elsewhere}

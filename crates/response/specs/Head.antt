@@ -6,7 +6,7 @@ use Rattle.octets.specs.Outcome.{Outcome, given}
 use Rattle.octets.specs.Kinds.{is_token}
 use Rattle.octets.specs.Lists.{is_nil}
 use Rattle.octets.specs.Parts.{parted}
-use Rattle.http.specs.Fields.{Field, field_of, value_start}
+use Rattle.http_head.specs.Fields.{Field, field_of, value_start}
 
 -- "Lines end in LF, with or without one CR before it": a line is what stands before the LF, without one CR, which is 13, at its end
 unfoldable pub bare_length : List ℕ → ℕ

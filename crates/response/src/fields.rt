@@ -4,7 +4,7 @@ ghost use Rattle.octets.specs.KindTable.{table};
 ghost use Rattle.response.specs.Head.{field_in};
 ghost use Rattle.response.specs.Seen.{noted_of, seen_with, see_of, step_option, not_twice, mark_filled, is_once};
 
-use http::fields::{FieldLine, field_line};
+use http_head::fields::{FieldLine, field_line};
 use octets::compare::same_letters;
 use octets::kinds::Kind;
 

@@ -1,6 +1,6 @@
 // The head of a script's response, and the action that it asks of the server.
 //
-// How often a head is passed over: once for its LFs, and once line by line for its fields (http::fields::field_line). A name is compared
+// How often a head is passed over: once for its LFs, and once line by line for its fields (http_head::fields::field_line). A name is compared
 // with three names, and of the three fields the values are judged at the end.
 #![tactic(auto)]
 

@@ -18,8 +18,8 @@ use Rattle.octets.proofs.Names.{in_either}
 use Rattle.octets.proofs.Cases.{upper-lower, lower-eqb}
 use Rattle.octets.proofs.Copies.{first_then, over-nil}
 use Rattle.headers.specs.Block.{printed}
-use Rattle.http.specs.Fields.{Field, field_at, fields_at}
-use Rattle.http.proofs.Claims.{fields-in-turn}
+use Rattle.http_head.specs.Fields.{Field, field_at, fields_at}
+use Rattle.http_head.proofs.Claims.{fields-in-turn}
 use Rattle.request.specs.Named.{lowered}
 use Rattle.variables.specs.Fields.{not_passed, passed, separator, added_by, joined, grouped, grouped_of}
 use Rattle.variables.specs.Variables.{variable_byte, http_variable}

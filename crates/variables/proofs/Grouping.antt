@@ -12,7 +12,7 @@ use Rattle.octets.specs.Compare.{same_bytes, lower_of}
 use Rattle.octets.specs.Lists.{All, no_more, ◌&◌, NoNul, is_in, different}
 use Rattle.octets.proofs.Alls.{all_append, all_map, no_nul}
 use Rattle.octets.proofs.Compares.{same_true, same_refl}
-use Rattle.http.specs.Fields.{Field}
+use Rattle.http_head.specs.Fields.{Field}
 use Rattle.request.specs.Named.{lowered, values_of, first_found}
 use Rattle.variables.specs.Fields.{not_passed, passed, separator, added_by, joined, grouped, grouped_of}
 use Rattle.variables.specs.Claims.{is_lower_name, ProperField, field_names, Optionally, absent, there}

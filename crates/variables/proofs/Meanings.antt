@@ -15,8 +15,8 @@ use Rattle.octets.proofs.Bools.{and_right}
 use Rattle.octets.proofs.Alls.{all-implies, all-each}
 use Rattle.octets.proofs.Names.{test-different}
 use Rattle.headers.specs.Block.{names}
-use Rattle.http.specs.Fields.{Field}
-use Rattle.http.specs.Claims.{Clean}
+use Rattle.http_head.specs.Fields.{Field}
+use Rattle.http_head.specs.Claims.{Clean}
 use Rattle.lent.specs.Settings.{Settings}
 use Rattle.mounts.specs.Mounts.{Route}
 use Rattle.lent.specs.Claims.{ProperSettings}

@@ -14,7 +14,7 @@ use Rattle.octets.specs.Lists.{All, no_more, ◌&◌, is_in, different}
 use Rattle.octets.proofs.Bools.{and_left, and_right}
 use Rattle.octets.proofs.Names.{different-append}
 use Rattle.headers.specs.Block.{Header, names}
-use Rattle.http.specs.Fields.{Field}
+use Rattle.http_head.specs.Fields.{Field}
 use Rattle.lent.specs.Settings.{Auth, Settings}
 use Rattle.mounts.specs.Mounts.{Route}
 use Rattle.variables.specs.Meaning.{Meaning}

@@ -9,7 +9,7 @@ use borrow.Author.Tests.{not-true}
 use Rattle.octets.specs.Compare.{same_bytes}
 use Rattle.octets.specs.Lists.{is_in, different}
 use Rattle.octets.proofs.Bools.{and_left, and_right}
-use Rattle.http.specs.Fields.{field_at}
+use Rattle.http_head.specs.Fields.{field_at}
 use Rattle.variables.specs.Fields.{added_by}
 use Rattle.variables.specs.Variables.{http_name}
 use Rattle.variables.specs.Put.{variable}

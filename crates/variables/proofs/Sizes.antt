@@ -17,9 +17,9 @@ use Rattle.octets.proofs.Bools.{and_left, and_right}
 use Rattle.octets.proofs.Compares.{same_true}
 use Rattle.octets.proofs.Decimals.{seven-digits}
 use Rattle.headers.specs.Block.{Header, printed}
-use Rattle.http.specs.Fields.{Field}
-use Rattle.http.specs.Claims.{fields_size}
-use Rattle.http.proofs.Claims.{head-holds}
+use Rattle.http_head.specs.Fields.{Field}
+use Rattle.http_head.specs.Claims.{fields_size}
+use Rattle.http_head.proofs.Claims.{head-holds}
 use Rattle.targets.specs.Target.{query_of}
 use Rattle.lent.specs.Settings.{Auth, Settings}
 use Rattle.mounts.specs.Mounts.{Route}

@@ -16,7 +16,7 @@ use Rattle.octets.proofs.Alls.{cut-length, has_no_nul, no_nul, all_append, all_m
 use Rattle.octets.proofs.Decimals.{decimal-digits}
 use Rattle.headers.specs.Block.{Header, Proper}
 use Rattle.headers.specs.Lookup.{value_in}
-use Rattle.http.specs.Fields.{Field}
+use Rattle.http_head.specs.Fields.{Field}
 use Rattle.lent.specs.Settings.{Auth, Settings}
 use Rattle.mounts.specs.Mounts.{Route}
 use Rattle.lent.specs.Claims.{ProperAuth, neither, both, ProperSettings}

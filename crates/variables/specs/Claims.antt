@@ -8,7 +8,7 @@ use Rattle.octets.specs.Kinds.{within, is_name}
 use Rattle.octets.specs.Decimal.{decimal}
 use Rattle.octets.specs.Lists.{All, NoNul, different, Different}
 use Rattle.headers.specs.Block.{Header, Proper, names, printed}
-use Rattle.http.specs.Fields.{Field}
+use Rattle.http_head.specs.Fields.{Field}
 use Rattle.targets.specs.Target.{query_of}
 use Rattle.lent.specs.Settings.{Settings}
 use Rattle.mounts.specs.Mounts.{Route}

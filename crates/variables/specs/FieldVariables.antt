@@ -4,7 +4,7 @@ use Rattle.std.specs.Prelude.{ℕ, zero, suc, ◌+◌, ◌*◌, ◌-◌, ◌≤�
 use Rattle.octets.specs.Compare.{same_bytes, lower_of}
 use Rattle.octets.specs.Lists.{is_in, different}
 use Rattle.headers.specs.Block.{printed}
-use Rattle.http.specs.Fields.{Field, field_at, fields_at, Inside, AllInside}
+use Rattle.http_head.specs.Fields.{Field, field_at, fields_at, Inside, AllInside}
 use Rattle.request.specs.Named.{lowered}
 use Rattle.variables.specs.Fields.{not_passed, added_by, grouped_of}
 use Rattle.variables.specs.Variables.{http_name, http_variable}

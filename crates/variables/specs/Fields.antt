@@ -4,7 +4,7 @@ use Rattle.std.specs.Prelude.{ℕ, cond, List, [], ◌∷◌, ◌++◌}
 use Rattle.octets.specs.Text.{bytes}
 use Rattle.octets.specs.Compare.{same_bytes}
 use Rattle.octets.specs.Lists.{is_in}
-use Rattle.http.specs.Fields.{Field}
+use Rattle.http_head.specs.Fields.{Field}
 use Rattle.request.specs.Named.{lowered}
 
 -- "Not passed: Authorization, Proxy-Authorization, Proxy, Connection, Keep-Alive, Content-Length, Content-Type."

@@ -2,7 +2,7 @@
 -- Assumes nothing.
 use Rattle.std.specs.Prelude.{ℕ, min, ◌+◌, ◌≤◌, ◌≡◌, List, length, take, drop}
 use Rattle.headers.specs.Block.{Header}
-use Rattle.http.specs.RequestLine.{version_text}
+use Rattle.http_head.specs.RequestLine.{version_text}
 use Rattle.targets.specs.Target.{query_of}
 use Rattle.lent.specs.Places.{fact_at, value_at, auth_at, AuthInside, FactInside, SettingsInside}
 use Rattle.request.specs.RequestRead.{target_in, path_in, part_if, LineKnown}

@@ -3,8 +3,8 @@
 use Rattle.std.specs.Prelude.{ℕ, List}
 use Rattle.std.proofs.Math.Option.{Option}
 use Rattle.octets.specs.Text.{bytes}
-use Rattle.http.specs.Fields.{Field}
-use Rattle.http.specs.RequestLine.{FirstLine}
+use Rattle.http_head.specs.Fields.{Field}
+use Rattle.http_head.specs.RequestLine.{FirstLine}
 use Rattle.request.specs.Named.{lowered, values_of, first_found}
 use Rattle.variables.specs.Fields.{grouped_of}
 

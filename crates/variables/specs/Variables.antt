@@ -7,7 +7,7 @@ use Rattle.octets.specs.Text.{bytes}
 use Rattle.octets.specs.Compare.{upper_of}
 use Rattle.octets.specs.Decimal.{decimal}
 use Rattle.headers.specs.Block.{Header}
-use Rattle.http.specs.Fields.{Field}
+use Rattle.http_head.specs.Fields.{Field}
 use Rattle.targets.specs.Target.{query_of}
 use Rattle.lent.specs.Settings.{Auth, Settings}
 use Rattle.mounts.specs.Mounts.{Route}

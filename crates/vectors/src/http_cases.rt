@@ -1,9 +1,9 @@
 // The parts of an HTTP head.
 use crate::print;
-use http::fields::{FieldLine, Fields, field_line, field_lines};
-use http::head::{Head, head_end};
-use http::lines::line_end;
-use http::request_line::{RequestLine, request_line};
+use http_head::fields::{FieldLine, Fields, field_line, field_lines};
+use http_head::head::{Head, head_end};
+use http_head::lines::line_end;
+use http_head::request_line::{RequestLine, request_line};
 use octets::kind_table::kinds;
 use octets::kinds::Kind;
 use targets::target::{TargetPlace, target};

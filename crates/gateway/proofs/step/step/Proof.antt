@@ -5,8 +5,8 @@ use mathlib.Core.Bool.{true}
 use native.Mathlib.Omega.{arith}
 use borrow.Author.Rules.{rules}
 use borrow.Author.Tests.{leb-true}
-use Rattle.http.specs.declared.head.Head.{Head}
-use Rattle.http.specs.declared.head.Head.TheVariants.{Bytes, Refused}
+use Rattle.http_head.specs.declared.head.Head.{Head}
+use Rattle.http_head.specs.declared.head.Head.TheVariants.{Bytes, Refused}
 use Rattle.gateway.specs.Stepping.{is_short, PathFits}
 use Rattle.gateway.proofs.step.step.Statement.{statement}
 use Rattle.gateway.proofs.step.step.Tie as tie

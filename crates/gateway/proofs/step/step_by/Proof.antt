@@ -10,10 +10,10 @@ use borrow.Author.Rules.{rules}
 use Rattle.octets.specs.Outcome.{Outcome, refused, gives, is_good}
 use Rattle.headers.specs.Block.{printed}
 use Rattle.scgi.specs.Grammar.{netstring}
-use Rattle.http.specs.Head.{head_of, head_outcome}
-use Rattle.http.specs.declared.head.Head.{Head}
-use Rattle.http.specs.Claims.{HeadWithin}
-use Rattle.http.proofs.Claims.{heads-hold}
+use Rattle.http_head.specs.Head.{head_of, head_outcome}
+use Rattle.http_head.specs.declared.head.Head.{Head}
+use Rattle.http_head.specs.Claims.{HeadWithin}
+use Rattle.http_head.proofs.Claims.{heads-hold}
 use Rattle.lent.specs.Lent.{Lent}
 use Rattle.mounts.specs.Mounts.{Mount, route_of}
 use Rattle.mounts.specs.Search.{mount_outcome}

@@ -3,10 +3,10 @@
 use Rattle.request.proofs.RequestSteps.{bad-fields, bad-rules, fields-read-whole}
 use Rattle.request.proofs.read.read_fields.Statement.{statement}
 use Rattle.request.proofs.read.read_fields.Tie as tie
-use Rattle.http.proofs.Claims.{fields_told}
-use Rattle.http.specs.Claims.{FieldsStand}
-use Rattle.http.specs.Fields.{Stored}
-use Rattle.http.specs.declared.fields.Fields.TheVariants.{Count}
+use Rattle.http_head.proofs.Claims.{fields_told}
+use Rattle.http_head.specs.Claims.{FieldsStand}
+use Rattle.http_head.specs.Fields.{Stored}
+use Rattle.http_head.specs.declared.fields.Fields.TheVariants.{Count}
 use Rattle.octets.specs.Kinds.{is_name}
 use borrow.Author.Rules.{rules}
 use native.Mathlib.Omega.{arith}

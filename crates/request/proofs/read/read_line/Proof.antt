@@ -4,9 +4,9 @@ use Prim.Native.Nat.{◌+◌, ◌-◌, ◌≤◌}
 use Rattle.request.proofs.RequestSteps.{part_room, malformed, target-in, bad-target, line-read-whole}
 use Rattle.request.proofs.read.read_line.Statement.{statement}
 use Rattle.request.proofs.read.read_line.Tie as tie
-use Rattle.http.proofs.Claims.{first-line-stands}
-use Rattle.http.specs.RequestLine.{line_outcome, line_places_of}
-use Rattle.http.specs.declared.request_line.RequestLine.TheVariants.{Line}
+use Rattle.http_head.proofs.Claims.{first-line-stands}
+use Rattle.http_head.specs.RequestLine.{line_outcome, line_places_of}
+use Rattle.http_head.specs.declared.request_line.RequestLine.TheVariants.{Line}
 use Rattle.targets.specs.Target.{TargetRead}
 use Rattle.octets.proofs.Lists.{part}
 use borrow.Author.Rules.{rules}

@@ -6,8 +6,8 @@ use Rattle.request.proofs.rules.check_rules.Tie as tie
 use Rattle.request.specs.Named.{lowered, values_of}
 use Rattle.request.specs.Rules.{stated_outcome}
 use Rattle.request.specs.Request.{host_right, stated_by}
-use Rattle.http.specs.Fields.{fields_at}
-use Rattle.http.specs.RequestLine.{version_text}
+use Rattle.http_head.specs.Fields.{fields_at}
+use Rattle.http_head.specs.RequestLine.{version_text}
 use Rattle.octets.specs.Outcome.{gives}
 use Rattle.octets.specs.Text.{bytes}
 use borrow.Author.Rules.{rules}

@@ -6,7 +6,7 @@ use Rattle.request.proofs.rules.content_length.Tie as tie
 use Rattle.request.specs.Named.{lowered, values_of}
 use Rattle.request.proofs.NamedFields.{FoundIn}
 use Rattle.request.specs.Request.{stated_by}
-use Rattle.http.specs.Fields.{fields_at}
+use Rattle.http_head.specs.Fields.{fields_at}
 use Rattle.octets.proofs.Lists.{part}
 use Rattle.octets.specs.Decimal.{number_read, number_of}
 use Rattle.octets.specs.Outcome.{given}

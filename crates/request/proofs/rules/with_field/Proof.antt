@@ -2,7 +2,7 @@
 -- Assumes nothing.
 use Rattle.request.proofs.rules.with_field.Statement.{statement}
 use Rattle.request.proofs.rules.with_field.Tie as tie
-use Rattle.http.specs.Fields.{field_at}
+use Rattle.http_head.specs.Fields.{field_at}
 use Rattle.octets.specs.Compare.{same_letters}
 use borrow.Author.Rules.{rules}
 use borrow.Author.Tests.{not-true, not-false, eq-eqb, ne_eqb}

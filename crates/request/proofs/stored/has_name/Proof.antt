@@ -6,7 +6,7 @@ use mathlib.Core.Path.{◌≡◌, sym, ap, ◌∙◌}
 use native.Mathlib.Omega.{arith}
 use lib.ListN.{length, get_or, length-take, length-drop}
 use borrow.Author.Rules.{rules}
-use Rattle.http.specs.Fields.{field_at, Inside}
+use Rattle.http_head.specs.Fields.{field_at, Inside}
 use Rattle.octets.specs.Compare.{lower_of}
 use Rattle.octets.proofs.Compares.{other_length}
 use Rattle.request.proofs.stored.has_name.Statement.{statement}

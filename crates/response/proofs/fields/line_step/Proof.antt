@@ -2,7 +2,7 @@
 -- Assumes nothing.
 use mathlib.Core.Path.{sym, ap, ◌∙◌}
 use lib.Seq.{length-take-le}
-use Rattle.http.specs.Fields.{line_option}
+use Rattle.http_head.specs.Fields.{line_option}
 use Rattle.response.proofs.FieldPlaces.{Told, told, unseen, seen-line}
 use native.Mathlib.Omega.{arith}
 use borrow.Author.Rules.{rules}

@@ -9,7 +9,7 @@ use borrow.Author.Rules.{rules}
 use borrow.Author.Tests.{not-true, not-false}
 use Rattle.octets.specs.Compare.{same_bytes, lower_of}
 use Rattle.octets.proofs.Copies.{and_then}
-use Rattle.http.specs.Fields.{field_at}
+use Rattle.http_head.specs.Fields.{field_at}
 use Rattle.variables.specs.FieldVariables.{low_name}
 use Rattle.variables.proofs.Puts.{wrote_none}
 use Rattle.variables.proofs.field_variables.put_added.Statement.{statement}

@@ -8,7 +8,7 @@ use lib.ListN.{length, length-append, length-map}
 use borrow.Author.Rules.{rules}
 use Rattle.octets.specs.Copy.{Wrote}
 use Rattle.octets.proofs.Copies.{and_then}
-use Rattle.http.specs.Fields.{field_at}
+use Rattle.http_head.specs.Fields.{field_at}
 use Rattle.variables.specs.Variables.{http_name}
 use Rattle.variables.specs.FieldVariables.{low_name, added_after}
 use Rattle.variables.proofs.field_variables.put_field.Statement.{statement}

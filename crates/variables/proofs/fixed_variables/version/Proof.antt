@@ -2,7 +2,7 @@
 -- Assumes nothing.
 use mathlib.Core.Path.{◌≡◌, sym, ap}
 use native.Mathlib.Omega.{arith}
-use Rattle.http.specs.RequestLine.{version_text}
+use Rattle.http_head.specs.RequestLine.{version_text}
 use Rattle.variables.proofs.fixed_variables.version.Statement.{statement}
 use Rattle.variables.proofs.fixed_variables.version.Tie as tie
 

@@ -1,0 +1,137 @@
+// Where the head of a request ends.
+ghost use Rattle.std.specs.Prelude.{◌≡◌, false, ◌+◌, ◌≤◌, ◌<◌, length, drop};
+ghost use Rattle.octets.specs.Outcome.{refusal_of};
+ghost use Rattle.http_head.specs.Head.{ends_head, end_from, end_option, Passed, head_outcome, head_of};
+
+// Whether CR LF CR LF stands at i.
+fn ends_head(s: &[u8], i: usize) -> bool
+    requires { i + 3 < length s.now }
+    ensures { result ≡ ends_head (drop i s.now) }
+{
+    if s[i] != b'\r' {
+        return false;
+    }
+    if s[i + 1] != b'\n' {
+        return false;
+    }
+    if s[i + 2] != b'\r' {
+        return false;
+    }
+    s[i + 3] == b'\n'
+}
+
+#[derive(Clone, Copy)]
+enum End {
+    At(usize),
+    Nowhere,
+}
+
+// Goes on from a place by four bytes as long as the fourth of them is above CR, and so neither CR nor LF: no CR LF CR LF begins among the
+// four. Sixteen bytes are passed in a turn, and fewer than sixteen left at the end are not looked at.
+fn skip(s: &[u8], from: usize) -> usize
+    requires { from ≤ length s.now }
+    ensures { Passed s.now from result }
+{
+    let mut i = from;
+    while 15 < s.len() - i {
+        if s[i + 3] <= b'\r' {
+            return i;
+        }
+        if s[i + 7] <= b'\r' {
+            return i + 4;
+        }
+        if s[i + 11] <= b'\r' {
+            return i + 8;
+        }
+        if s[i + 15] <= b'\r' {
+            return i + 12;
+        }
+        i += 16;
+    }
+    i
+}
+
+// Whether behind one of the sixteen places from i on LF and CR stand next to each other. Where they do not, no CR LF CR LF begins at one of
+// the sixteen. Written with no way out of the loop, so that the compiler tests sixteen bytes at once.
+fn turns(s: &[u8], i: usize) -> bool
+    requires { i + 18 ≤ length s.now }
+    ensures { result ≡ false → Passed s.now i (i + 16) }
+{
+    let mut hit = false;
+    let mut k: usize = 0;
+    while k < 16 {
+        hit = hit | ((s[i + k + 1] == b'\n') & (s[i + k + 2] == b'\r'));
+        k += 1;
+    }
+    hit
+}
+
+// Goes on from the start by thirty-two bytes as long as no CR LF CR LF begins among them; fewer than thirty-four left are not looked at.
+fn leap(s: &[u8]) -> usize
+    ensures { Passed s.now 0 result }
+{
+    let mut i: usize = 0;
+    while 34 <= s.len() - i {
+        let first = turns(s, i);
+        let second = turns(s, i + 16);
+        if first | second {
+            return i;
+        }
+        i += 32;
+    }
+    i
+}
+
+// The end of the first CR LF CR LF. Where fewer than sixteen bytes are left, they are passed by four as in skip.
+fn first_end(s: &[u8]) -> End
+    ensures { end_option result ≡ end_from 0 s.now }
+{
+    let mut i = skip(s, leap(s));
+    while 3 < s.len() - i {
+        if b'\r' < s[i + 3] {
+            i += 4;
+            continue;
+        }
+        if ends_head(s, i) {
+            return End::At(i + 4);
+        }
+        i = skip(s, i + 1);
+    }
+    End::Nowhere
+}
+
+#[derive(Clone, Copy)]
+pub enum Head {
+    Bytes(usize),
+    Refused(u8),
+}
+
+impl Head {
+    // The number of the refusal.
+    pub fn number(self) -> u8
+        ensures { result ≡ refusal_of (head_outcome self) }
+    {
+        match self {
+            Head::Bytes(_) => 0,
+            Head::Refused(n) => n,
+        }
+    }
+}
+
+// How many bytes the head at the start of s has, with its CR LF CR LF.
+pub fn head_end(s: &[u8]) -> Head
+    ensures { head_outcome result ≡ head_of s.now }
+{
+    if s.len() < 8192 {
+        let e = first_end(s);
+        let End::At(n) = e else {
+            return Head::Refused(1);
+        };
+        return Head::Bytes(n);
+    }
+    let e = first_end(&s[..8192]);
+    let End::At(n) = e else {
+        return Head::Refused(11);
+    };
+    Head::Bytes(n)
+}

@@ -1,0 +1,44 @@
+// Where a line ends.
+ghost use Rattle.std.specs.Prelude.{◌≡◌, ◌+◌, ◌≤◌, ◌<◌, eqb, length, drop};
+ghost use Rattle.http_head.specs.Lines.{ends_line, line_run};
+
+use bulk::scan::find_far;
+
+// Whether CR LF stands at i.
+fn ends_line(s: &[u8], i: usize) -> bool
+    requires { i < length s.now }
+    ensures { result ≡ ends_line (drop i s.now) }
+{
+    if s[i] != b'\r' {
+        return false;
+    }
+    if s.len() - i < 2 {
+        return false;
+    }
+    s[i + 1] == b'\n'
+}
+
+// Whether a line ends at i, by CR LF or with s.
+pub(crate) fn is_line_end(s: &[u8], i: usize) -> bool
+    ensures { result ≡ eqb (line_run (drop i s.now)) 0 }
+{
+    if s.len() <= i {
+        return true;
+    }
+    ends_line(s, i)
+}
+
+// The first CR LF of s at or after from, or the length of s. Goes from CR to CR, for speed.
+pub fn line_end(s: &[u8], from: usize) -> usize
+    requires { from ≤ length s.now }
+    ensures { result ≡ from + line_run (drop from s.now) }
+{
+    let mut i = find_far(s, from, b'\r');
+    while i < s.len() {
+        if ends_line(s, i) {
+            return i;
+        }
+        i = find_far(s, i + 1, b'\r');
+    }
+    i
+}
