@@ -34,8 +34,8 @@ returns-in_default-p c =
 pub overflow_add-result : goal.overflow_add-result
 overflow_add-result c = omega (arith, place-fits _ _ _ (got c))
 
-pub slice_bounds-result-end : goal.slice_bounds-result-end
-slice_bounds-result-end c = omega (arith, place-fits _ _ _ (got (goal.at.slice_bounds-result-end c).In-At))
+pub slice_bounds-result-end-2 : goal.slice_bounds-result-end-2
+slice_bounds-result-end-2 c = omega (arith, place-fits _ _ _ (got c))
 
 pub returns : goal.returns
 returns c =

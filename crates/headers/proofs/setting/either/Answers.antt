@@ -35,11 +35,14 @@ returns-in_default c =
 pub overflow_add-result : goal.overflow_add-result
 overflow_add-result c = omega (arith, first_fits _ _ _ _ (in_one c))
 
-pub slice_bounds-result-end : goal.slice_bounds-result-end
-slice_bounds-result-end c = omega (arith, first_fits _ _ _ _ (in_one (goal.at.slice_bounds-result-end c).In-First))
+pub slice_bounds-result-end-in-First : goal.slice_bounds-result-end-in-First
+slice_bounds-result-end-in-First c = omega (arith, first_fits _ _ _ _ (in_one c))
 
 pub overflow_add-result-in-Second : goal.overflow_add-result-in-Second
 overflow_add-result-in-Second c = omega (arith, second_fits _ _ _ _ (in-other c))
+
+pub slice_bounds-result-end-in-Second : goal.slice_bounds-result-end-in-Second
+slice_bounds-result-end-in-Second c = omega (arith, second_fits _ _ _ _ (in-other c))
 
 pub returns-in-First : goal.returns-in-First
 returns-in-First c =

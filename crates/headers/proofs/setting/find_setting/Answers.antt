@@ -25,4 +25,4 @@ returns-in_default-s c =
 pub returns : goal.returns
 unfolding setting_of
 returns c =
-    rw c.?first_found.ensures (rw (in_one (goal.at.returns c).In-Found) (rw (sym c.find-s.ensures ∙ ap lookup_outcome c.in-Found-s.is)))
+    rw c.first_of.ensures (rw (in_one (goal.at.returns c).In-Found) (rw (sym c.find-s.ensures ∙ ap lookup_outcome c.in-Found-s.is)))

@@ -11,14 +11,14 @@ slice_bounds-decoded_path-end c =
 pub slice_bounds-decoded_path-end-2 : goal.slice_bounds-decoded_path-end-2
 slice_bounds-decoded_path-end-2 c =
     let d = c.decode-decoded_len in
-    sym (length-take-le _ d.new.1.0 (front-inside c.args.p.now c.args.path.now _ _ d.ensures c.requires.1))
+    sym (length-take-le _ d.new.out (front-inside c.args.p.now c.args.path.now _ _ d.ensures c.requires.1))
 
 pub decoded_path-requires : goal.decoded_path-requires
 decoded_path-requires c =
     let p = c.args.p.now in
     let d = c.decode-decoded_len in
     let inside = front-inside p c.args.path.now _ _ d.ensures c.requires.1 in
-    rw (length-take-le _ d.new.1.0 inside) (omega (arith, front-short p _ _ _ d.ensures, c.requires.0))
+    rw (length-take-le _ d.new.out inside) (omega (arith, front-short p _ _ _ d.ensures, c.requires.0))
 
 pub returns-then-not-decoded_path : goal.returns-then-not-decoded_path
 returns-then-not-decoded_path c =
