@@ -16,7 +16,7 @@ use Rattle.octets.specs.Parts.{parted}
 use Rattle.headers.specs.Block.{printed, paired}
 use Rattle.headers.specs.Lookup.{value_in}
 use Rattle.scgi.specs.Check.{has, check_block}
-use Rattle.scgi.specs.Netstring.{digits_from}
+use Rattle.scgi.specs.Netstring.{length_from}
 use Rattle.scgi.specs.Read.{read_of}
 use Rattle.http_head.specs.Head.{end_from, head_of}
 use Rattle.http_head.specs.Lines.{lines_from}
@@ -38,7 +38,7 @@ use Rattle.gateway.specs.Worked.{facts, site, head_text, step, forward, answer_t
 use Rattle.gateway.specs.Claims.{WorkedCases}
 
 pub worked-cases : WorkedCases
-unfolding cases read_of digits_from check_block parted paired different is_in same_bytes number_from is_digit has step_with lent_of
+unfolding cases read_of length_from check_block parted paired different is_in same_bytes number_from is_digit has step_with lent_of
     settings_of mounts_of mounts_from value_of begins ends mount_of value_in forward_of head_of end_from lines_from request_of request_line_of version_of
     is_method is_version is_token is_letter is_hex is_target is_name is_value is_blank run all_of count kept escapes_right hex_value
     decoded_from path_of query_of raw_right no_dots segments_right decoded_right target_of field_of each_field lower_of rules_of host_right

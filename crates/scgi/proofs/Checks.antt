@@ -25,6 +25,7 @@ use Rattle.scgi.specs.Check.{stated_by, has, check_block}
 use Rattle.headers.proofs.Claims.{printed-parsed, headers-proper}
 
 states-test : (n : ℕ) (hs : List Header) → States n hs → stated_by hs ≡ gives n
+states-test n [] x = elim x [ ]
 states-test n (h ∷ hs) (first e p l) = rw (e, same_refl (bytes "CONTENT_LENGTH"), number-of-says n h.value p l)
 
 test-states : (n : ℕ) (hs : List Header) → stated_by hs ≡ gives n → States n hs
@@ -41,6 +42,7 @@ same-header h h' n v =
 -- a header among others
 pub among-test : (x : Header) (hs : List Header) → Among x hs → has x hs ≡ true
 unfolding has
+among-test x [] m = elim m [ ]
 among-test x (h ∷ hs) here = rw (same_refl x.name, same_refl x.value)
 among-test x (h ∷ hs) (later p) = rw (among-test x hs p) (or-true (same_bytes h.name x.name && same_bytes h.value x.value))
 

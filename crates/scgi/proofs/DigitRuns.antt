@@ -12,8 +12,9 @@ use lib.ListN.{length}
 use borrow.Author.Tests.{ltb-true, ltb-false}
 use Rattle.octets.specs.Outcome.{Outcome, gives, then, need}
 use Rattle.octets.specs.Kinds.{is_digit}
-use Rattle.scgi.specs.Netstring.{NetDigits, digits_from}
+use Rattle.scgi.specs.Digits.{NetDigits, digits_from}
 use Rattle.scgi.specs.Claims.{DigitsWithin, go_on, DigitsGoOn}
+use Rattle.scgi.proofs.LengthDigits.{length-digits}
 use Rattle.scgi.proofs.Lengths.{Digit, step, not-zero, length-said}
 
 -- the digits of two runs are those of the second after the first
@@ -80,4 +81,4 @@ digits-within (b ∷ s) n v d few small e =
     (step n v b (digits_from (n + 1) (v * 10 + (b - 48)) s) d e)
 
 pub digits-go-on : DigitsGoOn
-digits-go-on = record { two_runs = two_runs; within = digits-within; said = length-said }
+digits-go-on = record { two_runs = two_runs; within = digits-within; length_is = length-digits; said = length-said }

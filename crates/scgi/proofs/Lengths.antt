@@ -18,7 +18,9 @@ use Rattle.octets.proofs.Bools.{and_left, and_right}
 use Rattle.octets.proofs.Outcomes.{need-gives, then-gives}
 use Rattle.octets.proofs.Decimals.{digits, digits_append, one_digit_more, first-digit, decimal-some}
 use Rattle.scgi.specs.Claims.{LengthSaid}
-use Rattle.scgi.specs.Netstring.{NetDigits, NetLength, digit_step, digits_from, length_by, length_of}
+use Rattle.scgi.proofs.LengthDigits.{length-digits}
+use Rattle.scgi.specs.Digits.{NetDigits, digit_step, digits_from, length_by}
+use Rattle.scgi.specs.Netstring.{NetLength, length_of}
 
 -- What is written is read.
 
@@ -80,7 +82,7 @@ read-decimal n s m =
     let i : length (digits_in n n (58 ∷ s)) - suc (length s) ≡ length (decimal n) = omega (arith, simp length-append at (ap length a)) in
     let c : digits_from 0 0 (digits_in n n (58 ∷ s)) ≡ gives (record { count = length (decimal n); value = n; colon = true }) =
     r.to ∙ rw i (at-colon (length (decimal n)) n s (decimal-some n)) in
-    ap length_of (sym a) ∙ ap (λ (o : Outcome NetDigits). then o length_by) c
+    ap length_of (sym a) ∙ length-digits (digits_in n n (58 ∷ s)) ∙ ap (λ (o : Outcome NetDigits). then o length_by) c
 
 -- What is read was written.
 
@@ -185,7 +187,7 @@ digited (b ∷ s) d k e =
 
 pub length-said : (s : List ℕ) (l : NetLength) → length_of s ≡ gives l → LengthSaid s l
 length-said s l e =
-    let a = then-gives (digits_from 0 0 s) length_by l e in
+    let a = then-gives (digits_from 0 0 s) length_by l (sym (length-digits s) ∙ e) in
     let d : NetDigits = a.it in
     let b = need-gives d.colon 1 (gives (record { len = d.value; next = d.count + 1 })) l a.next in
     let x : gives (record { len = d.value; next = d.count + 1 }) ≡ gives l = b.1 in

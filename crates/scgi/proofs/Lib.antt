@@ -1,3 +1,4 @@
+pub mod LengthDigits
 pub mod Lengths
 pub mod DigitRuns
 pub mod CheckSteps

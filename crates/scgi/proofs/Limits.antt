@@ -14,8 +14,10 @@ use Rattle.octets.specs.Decimal.{decimal}
 use Rattle.octets.proofs.Decimals.{five-digits}
 use Rattle.framing.specs.Spool.{Ending, whole, cut, refused_by, full, total}
 use Rattle.framing.proofs.SpoolSteps.{LeftOver, left_over}
-use Rattle.scgi.specs.Netstring.{NetDigits, NetLength, digits_from, length_by, length_of}
+use Rattle.scgi.specs.Digits.{NetDigits, digits_from, length_by}
+use Rattle.scgi.specs.Netstring.{NetLength, length_of}
 use Rattle.scgi.proofs.DigitRuns.{digits-within}
+use Rattle.scgi.proofs.LengthDigits.{length-digits}
 use Rattle.scgi.specs.Check.{check_block}
 use Rattle.scgi.specs.Read.{Places, places_at, read_of, used_of}
 use Rattle.scgi.specs.Spool.{requests_of}
@@ -30,7 +32,7 @@ use Rattle.scgi.proofs.Numbers.{block-numbers, digit-numbers}
 -- Length digits that end too soon.
 
 cut-length : (s : List ℕ) → length_of s ≡ refused 1 → length s ≤ 16385
-cut-length s e = by (digits_from 0 0 s) refl e
+cut-length s e = by (digits_from 0 0 s) refl (sym (length-digits s) ∙ e)
   where
     by : (o : Outcome NetDigits) → digits_from 0 0 s ≡ o → then o length_by ≡ refused 1 → length s ≤ 16385
     by (refused k) q f =

@@ -17,7 +17,9 @@ use Rattle.octets.proofs.Refusals.{Refuses, with_number, not_refused, number-of,
 use Rattle.headers.specs.Block.{Header, names, headers_of}
 use Rattle.scgi.specs.Grammar.{scgi1}
 use Rattle.scgi.specs.Check.{stated_by, has, check_block}
-use Rattle.scgi.specs.Netstring.{NetDigits, digits_from, length_of}
+use Rattle.scgi.specs.Digits.{NetDigits, digits_from}
+use Rattle.scgi.proofs.LengthDigits.{length-digits}
+use Rattle.scgi.specs.Netstring.{length_of}
 use Rattle.scgi.specs.Read.{read_of}
 use Rattle.scgi.specs.Write.{to_write, write_of}
 use Rattle.scgi.specs.Claims.{read_numbers, digit_numbers, block_numbers, write_numbers, NumbersHold}
@@ -61,7 +63,8 @@ digit-numbers s i v n e = number-of n (digits-refuse s i v) e
 length-refuses : (s : List ℕ) → Refuses read_numbers (length_of s)
 unfolding all_of
 length-refuses s =
-    refuses-then (refuses-within digit_numbers refl (digits_from 0 0 s) (digit-numbers s 0 0)) (λ d. refuses-need d.colon 1 refl not_refused)
+    rw (length-digits s)
+    (refuses-then (refuses-within digit_numbers refl (digits_from 0 0 s) (digit-numbers s 0 0)) (λ d. refuses-need d.colon 1 refl not_refused))
 
 read-numbers : (s : List ℕ) (n : ℕ) → read_of s ≡ refused n → one_of read_numbers n ≡ true
 unfolding read_of all_of

@@ -15,14 +15,16 @@ use Rattle.framing.proofs.Spools.{spools-equal, spool-cut}
 use Rattle.framing.proofs.SpoolSteps.{spool-goes-on}
 use Rattle.framing.proofs.Keeps.{Keeps, was_cut, same, keeps_then, keeps-cond, keeps-end, kept, Steady, cut-one, steady-frames, still-leb, still-ltb}
 use Rattle.scgi.specs.Check.{check_block}
-use Rattle.scgi.specs.Netstring.{NetDigits, NetLength, digits_from, length_by, length_of}
+use Rattle.scgi.specs.Digits.{NetDigits, digits_from, length_by}
+use Rattle.scgi.specs.Netstring.{NetLength, length_of}
 use Rattle.scgi.specs.Read.{Places, places_at, read_of, used_of}
 use Rattle.scgi.proofs.DigitRuns.{two_runs}
+use Rattle.scgi.proofs.LengthDigits.{length-digits}
 use Rattle.scgi.specs.Claims.{go_on, Links, MoreBytesKeepAnswer, UsedWithin, CutGivesOne, SpoolsHold}
 
 -- more bytes change no length but where the digits had not met their colon
 keeps-length : (s t : List ℕ) → Keeps (length_of s) (length_of (s ++ t))
-keeps-length s t = rw (two_runs s t 0 0) (by (digits_from 0 0 s))
+keeps-length s t = rw (length-digits s, length-digits (s ++ t), two_runs s t 0 0) (by (digits_from 0 0 s))
   where
     by : (o : Outcome NetDigits) → Keeps (then o length_by) (then (then o (go_on t)) length_by)
     by (refused k) = same

@@ -15,7 +15,7 @@ use Rattle.headers.specs.Block.{Header, printed, paired}
 use Rattle.octets.specs.Parts.{parted}
 use Rattle.scgi.specs.Grammar.{scgi1}
 use Rattle.scgi.specs.Check.{has, check_block}
-use Rattle.scgi.specs.Netstring.{digits_from}
+use Rattle.scgi.specs.Netstring.{length_from}
 use Rattle.scgi.specs.Read.{Places, read_of}
 use Rattle.scgi.specs.Write.{to_write, write_of}
 
@@ -60,7 +60,7 @@ further =
     ∷ []
 
 pub further-right : map (λ c. read_of (barred c.input)) further ≡ map (λ c. c.answer) further
-unfolding further read_of digits_from check_block parted paired different is_in same_bytes number_from is_digit has
+unfolding further read_of length_from check_block parted paired different is_in same_bytes number_from is_digit has
 further-right = refl
 
 -- The writer, in its order.

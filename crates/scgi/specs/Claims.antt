@@ -9,7 +9,8 @@ use Rattle.framing.specs.Claims.{Frames, SpoolsEqual, SpoolCut, SpoolGoesOn}
 use Rattle.headers.specs.Block.{Header, printed}
 use Rattle.scgi.specs.Grammar.{netstring, encoded, IsRequest}
 use Rattle.scgi.specs.Check.{check_block}
-use Rattle.scgi.specs.Netstring.{NetDigits, NetLength, digits_from, length_of}
+use Rattle.scgi.specs.Netstring.{NetLength, length_of}
+use Rattle.scgi.specs.Digits.{NetDigits, digits_from, length_by}
 use Rattle.scgi.specs.Read.{Places, places_at, read_of, used_of, block_in, body_in}
 use Rattle.scgi.specs.Spool.{requests_of}
 use Rattle.scgi.specs.Window.{largest, through_window}
@@ -139,6 +140,7 @@ pub record DigitsGoOn : Type 0 where
       → digits_from n v (s ++ t) ≡ then (digits_from n v s) (go_on t)
   pub within :
       (s : List ℕ) (n v : ℕ) (d : NetDigits) → n ≤ v + 1 → v ≤ 16384 → digits_from n v s ≡ gives d → DigitsWithin n (length s) d
+  pub length_is : (s : List ℕ) → length_of s ≡ then (digits_from 0 0 s) length_by
   pub said : (s : List ℕ) (l : NetLength) → length_of s ≡ gives l → LengthSaid s l
 
 -- a block that passes states no body above the limit

@@ -1,6 +1,7 @@
 pub mod Grammar
 pub mod Check
 pub mod Netstring
+pub mod Digits
 pub mod Read
 pub mod Write
 pub mod Spool

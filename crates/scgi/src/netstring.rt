@@ -1,7 +1,8 @@
 // The length digits of a netstring.
 ghost use Rattle.std.specs.Prelude.{◌≡◌, ◌+◌, ◌≤◌};
 ghost use Rattle.octets.specs.Outcome.{refusal_of};
-ghost use Rattle.scgi.specs.Netstring.{digits_outcome, digits_from, length_outcome, length_of};
+ghost use Rattle.scgi.specs.Digits.{digits_outcome, digits_from};
+ghost use Rattle.scgi.specs.Netstring.{length_outcome, length_of};
 
 #[derive(Clone, Copy)]
 pub enum Digits {

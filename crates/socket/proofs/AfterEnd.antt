@@ -10,7 +10,7 @@ use lib.ListN.{length}
 use Rattle.octets.specs.Outcome.{Outcome, refused, gives}
 use Rattle.octets.specs.Copy.{over}
 use Rattle.octets.proofs.Lists.{part-more}
-use Rattle.scgi.specs.Netstring.{NetDigits, digits_from}
+use Rattle.scgi.specs.Digits.{NetDigits, digits_from}
 use Rattle.scgi.specs.Read.{places_at, read_of}
 use Rattle.scgi.proofs.Claims.{more-bytes-keep-answer, used-within, reads-in-steps}
 use Rattle.socket.specs.Socket.{begun, Fits, soundly, step_at_end}

@@ -11,7 +11,8 @@ use lib.Seq.{take-nil}
 use Rattle.octets.specs.Outcome.{Outcome, refused, gives, then}
 use Rattle.octets.specs.Kinds.{one_of}
 use Rattle.octets.proofs.Copies.{over-nil}
-use Rattle.scgi.specs.Netstring.{NetDigits, digits_from, length_by, length_of}
+use Rattle.scgi.specs.Digits.{NetDigits, digits_from, length_by}
+use Rattle.scgi.specs.Netstring.{length_of}
 use Rattle.scgi.specs.Claims.{digit_numbers, DigitsWithin, go_on}
 use Rattle.scgi.specs.Read.{read_of}
 use Rattle.scgi.proofs.Claims.{digits-go-on, numbers-hold, reads-in-steps}

@@ -9,7 +9,8 @@ use lib.ListN.{length, take, drop, length-take}
 use Rattle.octets.specs.Outcome.{Outcome, refused, gives, then}
 use Rattle.octets.specs.Copy.{over}
 use Rattle.octets.proofs.Copies.{over-nil, before, length_over}
-use Rattle.scgi.specs.Netstring.{NetDigits, NetLength, digits_from, length_by, length_of}
+use Rattle.scgi.specs.Digits.{NetDigits, digits_from, length_by}
+use Rattle.scgi.specs.Netstring.{NetLength, length_of}
 use Rattle.scgi.specs.Claims.{go_on}
 use Rattle.scgi.proofs.Claims.{digits-go-on}
 use Rattle.socket.specs.Claims.{stored_by, held_of}

@@ -17,7 +17,7 @@ use Rattle.octets.proofs.Bools.{and_right}
 use Rattle.octets.proofs.ByteRules.{below}
 use Rattle.octets.proofs.Refusals.{Refuses, with_number, not_refused, number-of, one_of_all}
 use Rattle.scgi.specs.Check.{check_block}
-use Rattle.scgi.specs.Netstring.{NetDigits, digits_from}
+use Rattle.scgi.specs.Digits.{NetDigits, digits_from}
 use Rattle.scgi.specs.Claims.{digit_numbers, block_numbers}
 use Rattle.scgi.proofs.Claims.{numbers-hold}
 use Rattle.socket.specs.Socket.{in_length, in_block, in_body, at_end, at_fault, stage_number, stage_of, begun, moved, new, faulted, limited, is_kept, sound_refusal, soundly}

@@ -13,7 +13,7 @@ use Rattle.octets.specs.Outcome.{Outcome, refused, gives}
 use Rattle.octets.specs.Scan.{all_of}
 use Rattle.octets.proofs.Refusals.{one_of_all}
 use Rattle.scgi.specs.Check.{check_block}
-use Rattle.scgi.specs.Netstring.{digits_from}
+use Rattle.scgi.specs.Digits.{digits_from}
 use Rattle.scgi.specs.Read.{Places, places_at, read_of, body_in}
 use Rattle.scgi.proofs.Claims.{numbers-hold, digits-go-on}
 use Rattle.socket.specs.Socket.{Stage, in_length, in_block, in_body, at_end, at_fault, stage_of, faulted, Fits, is_kept, soundly, Step, Stepped}

@@ -13,7 +13,8 @@ use borrow.Author.Tests.{eqb-true}
 use Rattle.octets.specs.Outcome.{refused, gives, Outcome, then}
 use Rattle.octets.proofs.Lists.{part-more}
 use Rattle.scgi.specs.Check.{check_block}
-use Rattle.scgi.specs.Netstring.{NetLength, digits_from, length_of}
+use Rattle.scgi.specs.Digits.{digits_from}
+use Rattle.scgi.specs.Netstring.{NetLength, length_of}
 use Rattle.scgi.specs.Read.{Places, places_at, read_of, block_in}
 use Rattle.scgi.proofs.Claims.{reads-in-steps, more-bytes-keep-answer, used-within}
 use Rattle.socket.specs.Socket.{Stage, in_length, in_block, in_body, at_end, at_fault, stage_of, new, Fits, soundly, Stepped, fed_at, feed_of}

@@ -12,7 +12,8 @@ use Rattle.octets.specs.Outcome.{gives}
 use Rattle.octets.proofs.Lists.{part-more}
 use Rattle.octets.proofs.Outcomes.{gives-once}
 use Rattle.scgi.specs.Check.{check_block}
-use Rattle.scgi.specs.Netstring.{NetDigits, NetLength, digits_from}
+use Rattle.scgi.specs.Digits.{NetDigits, digits_from}
+use Rattle.scgi.specs.Netstring.{NetLength}
 use Rattle.scgi.specs.Claims.{Links}
 use Rattle.scgi.specs.Read.{Places, places_at, read_of, body_in}
 use Rattle.scgi.proofs.Claims.{digits-go-on, more-bytes-keep-answer, used-within, reads-in-steps}

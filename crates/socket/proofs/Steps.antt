@@ -15,7 +15,7 @@ use Rattle.octets.specs.Copy.{over}
 use Rattle.octets.proofs.Bools.{and_right, and-false}
 use Rattle.octets.proofs.Lists.{part}
 use Rattle.scgi.specs.Check.{check_block}
-use Rattle.scgi.specs.Netstring.{NetDigits, digits_from}
+use Rattle.scgi.specs.Digits.{NetDigits, digits_from}
 use Rattle.socket.specs.Socket.{in_length, in_block, in_body, at_end, at_fault, stage_of, stage_number, begun, new, faulted, moved, Fits, limited, is_kept, sound_refusal, soundly}
 use Rattle.socket.specs.Socket.{at_more, step_at_fault, step_at_end, too_short, fed_body, fed_checked, fed_block, fed_by, fed_at, feed_of, Stepped, fed_digits, fed_head}
 use Rattle.socket.specs.declared.reader.Socket.{Socket}

@@ -5,7 +5,7 @@ use Rattle.octets.specs.Outcome.{Outcome, refused, gives}
 use Rattle.octets.specs.Kinds.{within}
 use Rattle.octets.specs.Copy.{over}
 use Rattle.scgi.specs.Check.{check_block}
-use Rattle.scgi.specs.Netstring.{NetDigits, digits_from}
+use Rattle.scgi.specs.Digits.{NetDigits, digits_from}
 use Rattle.socket.specs.declared.reader.Socket.{Socket}
 use Rattle.socket.specs.declared.reader.Answer.{Answer}
 use Rattle.socket.specs.declared.reader.Answer.TheVariants.{Request, Refused}

@@ -8,7 +8,7 @@ use lib.ListN.{length}
 use borrow.Author.Rules.{rules}
 use borrow.Author.Tests.{not-true, not-false}
 use Rattle.octets.specs.Outcome.{gives}
-use Rattle.scgi.specs.Netstring.{NetDigits, digits_outcome, digits_from}
+use Rattle.scgi.specs.Digits.{NetDigits, digits_outcome, digits_from}
 use Rattle.scgi.specs.Claims.{DigitsWithin}
 use Rattle.scgi.proofs.Claims.{digits-go-on}
 use Rattle.socket.proofs.Steps.{Ready, digits-first, block-at-once, digits-fault, digits_more, digits-colon}

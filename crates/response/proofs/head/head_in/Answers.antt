@@ -1,0 +1,85 @@
+use mathlib.Core.Path.{refl, sym, ap, ◌∙◌}
+use mathlib.Core.List.{List}
+use Prim.Native.Nat.{ℕ, ◌-◌, ◌≤◌}
+use lib.ListN.{take, drop, length-take}
+use Rattle.response.specs.Seen.{step_option}
+use Rattle.response.proofs.LineEnds.{bare-le, part_length}
+use Rattle.response.proofs.Heads.{at_end, unended, ends, too_many, bad-line, onward}
+use native.Mathlib.Omega.{arith}
+use Rattle.response.proofs.head.head_in.Goals as goal
+use Rattle.response.proofs.head.head_in.Goals.{After-bare_end-l}
+
+-- the line ends within the bytes
+module _ (c : After-bare_end-l) where
+  abbrev t : List ℕ
+  t = c.args.t.now
+
+  abbrev start : ℕ
+  start = c.loop-at.at
+
+  abbrev end : ℕ
+  end = c.find-e.result
+
+  starts : start ≤ end
+  starts = omega (arith, c.find-e.ensures)
+
+  line-starts : start ≤ c.bare_end-l.result
+  line-starts = omega (arith, c.bare_end-l.ensures)
+
+  line-ends : c.bare_end-l.result ≤ end
+  line-ends =
+      omega (arith, c.bare_end-l.ensures, bare-le (take (end - start) (drop start t)), part_length t start end starts (omega (arith, c.if-t-e.false)))
+
+pub loop-at-init : goal.loop-at-init
+loop-at-init c = record { count = omega arith; within = omega arith; answer = refl }
+
+pub find-e-requires : goal.find-e-requires
+find-e-requires c = c.loop-at.invariant.within
+
+pub returns-then-t-e : goal.returns-then-t-e
+returns-then-t-e c = sym (unended c.loop-at.invariant _ c.find-e.ensures c.if-t-e.true)
+
+pub bare_end-l-requires : goal.bare_end-l-requires
+bare_end-l-requires c = (omega (arith, c.find-e.ensures), omega (arith, c.if-t-e.false))
+
+pub overflow_add-result : goal.overflow_add-result
+overflow_add-result c = omega (arith, c.if-t-e.false)
+
+pub returns-then-l-at : goal.returns-then-l-at
+returns-then-l-at c = sym (ends c.loop-at.invariant _ c.find-e.ensures c.if-t-e.false _ c.bare_end-l.ensures c.if-l-at.true)
+
+pub returns-then-n-eq64 : goal.returns-then-n-eq64
+returns-then-n-eq64 c = sym (too_many c.loop-at.invariant _ c.find-e.ensures c.if-t-e.false _ c.bare_end-l.ensures c.if-l-at.false c.if-n-eq64.true)
+
+pub slice_bounds-line_step-count : goal.slice_bounds-line_step-count
+slice_bounds-line_step-count c = line-starts c
+
+pub slice_bounds-line_step-start : goal.slice_bounds-line_step-start
+slice_bounds-line_step-start c = line-starts c
+
+pub slice_bounds-line_step-end : goal.slice_bounds-line_step-end
+slice_bounds-line_step-end c = omega (arith, line-ends c, c.if-t-e.false)
+
+pub line_step-r-requires : goal.line_step-r-requires
+line_step-r-requires c = 
+    (c.requires.0, omega (arith, line-starts c, line-ends c, c.if-t-e.false, c.requires.1, length-take (c.bare_end-l.result - start c) (drop (start c) (t c))))
+
+pub returns-in_default : goal.returns-in_default
+returns-in_default c =
+    sym (bad-line c.loop-at.invariant _ c.find-e.ensures c.if-t-e.false _ c.bare_end-l.ensures c.if-l-at.false (sym (ap step_option c.in_default.is) ∙ c.line_step-r.ensures))
+
+pub overflow_add-n : goal.overflow_add-n
+overflow_add-n c = omega (arith, c.loop-at.invariant.count)
+
+pub overflow_add-at : goal.overflow_add-at
+overflow_add-at c = omega (arith, c.if-t-e.false)
+
+pub loop-at-smaller : goal.loop-at-smaller
+loop-at-smaller c = omega (arith, c.if-t-e.false, starts c)
+
+pub loop-at-preserved : goal.loop-at-preserved
+loop-at-preserved c =
+    onward c.loop-at.invariant _ c.find-e.ensures c.if-t-e.false _ c.bare_end-l.ensures c.if-l-at.false c.if-n-eq64.false _ (sym (ap step_option c.in-Next.is) ∙ c.line_step-r.ensures)
+
+pub returns : goal.returns
+returns c = sym (at_end c.loop-at.invariant c.loop-at-test.false)

@@ -1,0 +1,46 @@
+use native.Mathlib.Omega.{arith}
+use mathlib.Core.List.{◌++◌}
+use mathlib.Core.Path.{◌≡◌}
+use Prim.Native.Nat.{◌+◌, ◌≤◌}
+use lib.ListN.{length, length-append}
+use Rattle.octets.proofs.Copies.{and_then}
+use Rattle.octets.proofs.Decimals.{decimal-short}
+use Rattle.scgi.proofs.WriteSteps.{no_room, has_room, size_is}
+use Rattle.scgi.specs.Grammar.{netstring}
+use Rattle.scgi.proofs.write.write_parts.Goals as goal
+use Rattle.scgi.proofs.write.write_parts.Goals.{After-digits, Else-out-size}
+
+-- the size that is computed is small, and right
+small : (c : After-digits) → c.digits.result + 2 + length c.args.block.now + length c.args.body.now ≤ 1114112
+small c = omega (arith, decimal-short (length c.args.block.now), c.digits.ensures, c.requires.0, c.requires.1)
+
+size : (c : After-digits) → length (netstring c.args.block.now ++ c.args.body.now) ≡ c.digits.result + 2 + length c.args.block.now + length c.args.body.now
+size c = omega (arith, size_is c.args.block.now c.args.body.now, c.digits.ensures)
+
+-- the output has room for it
+room : (c : Else-out-size) → length (netstring c.args.block.now ++ c.args.body.now) ≤ length c.args.out.now
+room c = omega (arith, (let it : length (netstring c.args.block.now ++ c.args.body.now) ≡ c.digits.result + 2 + length c.args.block.now + length c.args.body.now = omega (arith, size_is c.args.block.now c.args.body.now, c.digits.ensures) in it))
+
+pub overflow_add-size : goal.overflow_add-size
+overflow_add-size c = omega (arith, small c)
+
+pub overflow_add-size-2 : goal.overflow_add-size-2
+overflow_add-size-2 c = omega (arith, small c)
+
+pub overflow_add-size-3 : goal.overflow_add-size-3
+overflow_add-size-3 c = omega (arith, small c)
+
+pub returns-then-out-size : goal.returns-then-out-size
+returns-then-out-size c = no_room (netstring c.args.block.now ++ c.args.body.now) c.args.out.now (omega (arith, size (goal.at.returns-then-out-size c).After-digits))
+
+pub put_netstring-at-requires : goal.put_netstring-at-requires
+put_netstring-at-requires c = omega (arith, room (goal.at.put_netstring-at-requires c).Else-out-size, length-append (netstring c.args.block.now) c.args.body.now)
+
+pub put_large-requires : goal.put_large-requires
+put_large-requires c = omega (arith, room (goal.at.put_large-requires c).Else-out-size, length-append (netstring c.args.block.now) c.args.body.now, c.put_netstring-at.ensures.ends)
+
+pub returns : goal.returns
+returns c =
+    let a = c.args in
+    has_room (netstring a.block.now ++ a.body.now) a.out.now _ _ (room (goal.at.returns c).Else-out-size)
+    (and_then c.put_netstring-at.ensures (omega (arith, room (goal.at.returns c).Else-out-size, length-append (netstring a.block.now) a.body.now)) _ _ _ c.put_large.ensures)
