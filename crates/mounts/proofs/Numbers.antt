@@ -1,6 +1,6 @@
 -- 20 is the only number that lent blocks and mounts are refused with.
 -- Assumes nothing.
-use Prim.Native.Nat.{ℕ}
+use Prim.Native.Nat.{ℕ, ◌+◌}
 use mathlib.Core.Path.{refl}
 use mathlib.Core.Bool.{not}
 use mathlib.Core.List.{List, [], ◌∷◌}
@@ -42,7 +42,7 @@ unfolding mounts_from
 mounts-refuse i [] = not_refused
 mounts-refuse i (h ∷ hs) =
     refuses-then (mount-refuses _ h)
-    (λ m. refuses-then (mounts-refuse _ hs) (λ ms. not_refused))
+    (λ m. refuses-then (mounts-refuse (i + length h.name + 1 + length h.value + 1) hs) (λ ms. not_refused))
 
 pub mounts-number : MountsNumber
 unfolding mounts_of

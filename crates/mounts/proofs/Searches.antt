@@ -47,6 +47,8 @@ named-later : (name : List ℕ) (m : Mount) (ms : List Mount) → same_bytes m.n
 unfolding mount_named
 named-later name m ms q (some p) (some v) x = record { m = x.m; is = rw q x.is; made = x.made }
 named-later name m ms q none none x = rw q x
+named-later name m ms q none (some v) x = elim x [ ]
+named-later name m ms q (some p) none x = elim x [ ]
 
 named : (name : List ℕ) (i : ℕ) (hs : List Header) (ms : List Mount) → mounts_from i hs ≡ gives ms → NamedBy name (place_in name i hs) (value_in name hs) ms
 unfolding mounts_from place_in value_in mount_named

@@ -71,7 +71,7 @@ loop-i-smaller c = omega (arith, (found (goal.at.loop-i-smaller c).In-At).order)
 pub loop-i-preserved : goal.loop-i-preserved
 loop-i-preserved c =
     let v = sym c.read_value-v.ensures ∙ ap value_outcome c.in-Pool.is in
-    (omega (arith, (found (goal.at.loop-i-preserved c).In-At).order), (header (goal.at.loop-i-preserved c).In-At).well-formed (is-mount _ _ _ _ (found (goal.at.loop-i-preserved c).In-At).order c.if-block-i-ne47.false c.if-block-name_end-eq47.false _ v))
+    (omega (arith, (found (goal.at.loop-i-preserved c).In-At).order), (header (goal.at.loop-i-preserved c).In-At).good (is-mount _ _ _ _ (found (goal.at.loop-i-preserved c).In-At).order c.if-block-i-ne47.false c.if-block-name_end-eq47.false _ v))
 
 pub returns : goal.returns
 returns c = sym (no_more c.loop-i.invariant.1 c.loop-i-test.false)

@@ -52,17 +52,18 @@ pub returns-then-n-eq64 : goal.returns-then-n-eq64
 returns-then-n-eq64 c = sym (too_many c.loop-at.invariant _ c.find-e.ensures c.if-t-e.false _ c.bare_end-l.ensures c.if-l-at.false c.if-n-eq64.true)
 
 pub slice_bounds-line_step-count : goal.slice_bounds-line_step-count
-slice_bounds-line_step-count c = line-starts c
+slice_bounds-line_step-count c = line-starts (goal.at.slice_bounds-line_step-count c).After-bare_end-l
 
 pub slice_bounds-line_step-start : goal.slice_bounds-line_step-start
-slice_bounds-line_step-start c = line-starts c
+slice_bounds-line_step-start c = line-starts (goal.at.slice_bounds-line_step-start c).After-bare_end-l
 
 pub slice_bounds-line_step-end : goal.slice_bounds-line_step-end
-slice_bounds-line_step-end c = omega (arith, line-ends c, c.if-t-e.false)
+slice_bounds-line_step-end c = omega (arith, line-ends (goal.at.slice_bounds-line_step-end c).After-bare_end-l, c.if-t-e.false)
 
 pub line_step-r-requires : goal.line_step-r-requires
-line_step-r-requires c = 
-    (c.requires.0, omega (arith, line-starts c, line-ends c, c.if-t-e.false, c.requires.1, length-take (c.bare_end-l.result - start c) (drop (start c) (t c))))
+line_step-r-requires c =
+    let k = (goal.at.line_step-r-requires c).After-bare_end-l in
+    (c.requires.0, omega (arith, line-starts k, line-ends k, c.if-t-e.false, c.requires.1, length-take (c.bare_end-l.result - start k) (drop (start k) (t k))))
 
 pub returns-in_default : goal.returns-in_default
 returns-in_default c =
@@ -75,7 +76,7 @@ pub overflow_add-at : goal.overflow_add-at
 overflow_add-at c = omega (arith, c.if-t-e.false)
 
 pub loop-at-smaller : goal.loop-at-smaller
-loop-at-smaller c = omega (arith, c.if-t-e.false, starts c)
+loop-at-smaller c = omega (arith, c.if-t-e.false, starts (goal.at.loop-at-smaller c).After-bare_end-l)
 
 pub loop-at-preserved : goal.loop-at-preserved
 loop-at-preserved c =

@@ -1,3 +1,4 @@
+use borrow.Enum.Refused.{opened}
 use mathlib.Core.Path.{ap, ◌∙◌}
 use Prim.Native.Nat.{◌+◌, ◌≤◌}
 use lib.ListN.{length}
@@ -13,7 +14,7 @@ inside : (c : In-Once) → c.in-Once.start + c.in-Once.len ≤ length c.args.s.n
 inside c = once-in _ _ _ _ c.requires.1 c.in-Once.is
 
 pub returns-in_default : goal.returns-in_default
-returns-in_default c = unmarked c.args.s.now c.args.m c.in_default.in_default-own.keys2
+returns-in_default c = unmarked c.args.s.now c.args.m (opened c.in_default.in_default-own.keys2)
 
 pub returns-then-len-eq0 : goal.returns-then-len-eq0
 returns-then-len-eq0 c = empty-location c.args.s.now c.args.m _ _ c.in-Once.is c.if-len-eq0.true

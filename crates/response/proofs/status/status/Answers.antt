@@ -1,3 +1,4 @@
+use borrow.Enum.Refused.{opened}
 use lib.ListN.{take, drop, length}
 use Rattle.response.specs.Status.{stated_in, status_of}
 use Rattle.response.specs.Seen.{value_at}
@@ -15,7 +16,7 @@ inside : (c : In-Once) → c.in-Once.start + c.in-Once.len ≤ length c.args.s.n
 inside c = once-in _ _ _ _ c.requires c.in-Once.is
 
 pub returns-in_default : goal.returns-in_default
-returns-in_default c = sym (ap stated_in (not-once c.args.s.now c.args.m c.in_default.in_default-own.keys2))
+returns-in_default c = sym (ap stated_in (not-once c.args.s.now c.args.m (opened c.in_default.in_default-own.keys2)))
 
 pub overflow_add-start : goal.overflow_add-start
 overflow_add-start c = omega (arith, inside c)

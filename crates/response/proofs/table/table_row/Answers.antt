@@ -1,3 +1,4 @@
+use borrow.Enum.Refused.{opened}
 use Rattle.response.specs.Status.{status_read}
 use Rattle.response.proofs.Tables.{no-script, filled-some, local-script, other-script}
 use mathlib.Core.Path.{sym, ap, ◌∙◌}
@@ -19,7 +20,7 @@ pub overflow_sub-rest : goal.overflow_sub-rest
 overflow_sub-rest c = omega (arith, c.requires.2)
 
 pub returns-in_default : goal.returns-in_default
-returns-in_default c = let x = c.args in c.document.ensures x.fields ∙ ap table_of (sym (no-script x.s.now x.location x.body x.fields x.typed (status_read x.code) c.in_default.in_default-own.keys2))
+returns-in_default c = let x = c.args in c.document.ensures x.fields ∙ ap table_of (sym (no-script x.s.now x.location x.body x.fields x.typed (status_read x.code) (opened c.in_default.in_default-own.keys2)))
 
 pub bounds-s-start : goal.bounds-s-start
 bounds-s-start c = omega (arith, inside (goal.at.bounds-s-start c).In-Once, some_bytes (goal.at.bounds-s-start c).In-Once)
