@@ -29,7 +29,7 @@ abbrev pub Said : Socket → List ℕ → Type 0
 Said s t = digits_from 0 0 t ≡ gives (digits_in s true)
 
 pub by_digits : (t : List ℕ) (o : Outcome NetDigits) → digits_from 0 0 t ≡ o → length_of t ≡ then o length_by
-by_digits t o e = ap (λ (x : Outcome NetDigits). then x length_by) e
+by_digits t o e = digits-go-on.length_is t ∙ ap (λ (x : Outcome NetDigits). then x length_by) e
 
 pub said-length : (s : Socket) (t : List ℕ) → Said s t → length_of t ≡ gives (length_in s)
 said-length s t e = by_digits t (gives (digits_in s true)) e

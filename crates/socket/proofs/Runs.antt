@@ -14,7 +14,7 @@ use Rattle.octets.specs.Outcome.{refused, gives, Outcome, then}
 use Rattle.octets.proofs.Lists.{part-more}
 use Rattle.scgi.specs.Check.{check_block}
 use Rattle.scgi.specs.Digits.{digits_from}
-use Rattle.scgi.specs.Netstring.{NetLength, length_of}
+use Rattle.scgi.specs.Netstring.{NetLength, length_from, length_of}
 use Rattle.scgi.specs.Read.{Places, places_at, read_of, block_in}
 use Rattle.scgi.proofs.Claims.{reads-in-steps, more-bytes-keep-answer, used-within}
 use Rattle.socket.specs.Socket.{Stage, in_length, in_block, in_body, at_end, at_fault, stage_of, new, Fits, soundly, Stepped, fed_at, feed_of}
@@ -59,7 +59,7 @@ module _ (lent t b buffer run : List ℕ) (s : Socket) (room : 16384 ≤ length 
   next = record { fits = reached.fits; sound = reached.sound; at = reached.at; holds = reached.buffer }
 
 starts : (lent : List ℕ) → Stands lent [] [] lent new
-unfolding digits_from
+unfolding length_from digits_from
 starts lent =
     record {
       fits = fits-new;
@@ -208,7 +208,7 @@ block-known lent taken body buffer s room c h =
 -- Nothing of a request has come.
 
 empty-cut : read_of [] ≡ refused 1
-unfolding digits_from
+unfolding length_from
 empty-cut = (reads-in-steps []).no_length 1 refl
 
 -- after a byte the stage is another, or there are digits
