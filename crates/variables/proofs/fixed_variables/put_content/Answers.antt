@@ -16,91 +16,53 @@ use Rattle.variables.specs.FixedVariables.{content_variables}
 use Rattle.variables.proofs.Puts.{Left, left-all, left-room, left-more, left-last, wrote-length}
 use Rattle.variables.proofs.FixedVariables.{behind_digits, content-start, auth-type-row, content-type-row}
 use Rattle.variables.proofs.fixed_variables.put_content.Goals as goal
-use Rattle.variables.proofs.fixed_variables.put_content.Goals.{After-auth_type-kind, After-slice_known-2-1, After-slice_known-3-1, After-slice_known-4-1, After-slice_known-5-1, After-slice_known-6-1, Start}
-
--- The start, from each place where one more is written.
-abbrev start₁ : After-slice_known-2-1 → Start
-start₁ c = c
-
-abbrev start₂ : After-slice_known-3-1 → Start
-start₂ c = c
-
-abbrev start₃ : After-slice_known-4-1 → Start
-start₃ c = c
-
-abbrev start₄ : After-slice_known-5-1 → Start
-start₄ c = c
-
-abbrev start₅ : After-slice_known-6-1 → Start
-start₅ c = c
-
--- .. and where the value of AUTH_TYPE was taken
-abbrev asked : After-slice_known-4-1 → After-auth_type-kind
-asked c = c
+use Rattle.variables.proofs.fixed_variables.put_content.Goals.{Start}
 
 abbrev block : Start → List ℕ
-block c = printed (content_variables c.args.facts.now c.args.head.now c.args.k c.args.size)
+block s = printed (content_variables s.args.facts.now s.args.head.now s.args.k s.args.size)
 
 -- the rows that may be none
-abbrev typeRow : Start → Rows
-typeRow c =
-    let f = c.args.k.fields in
-    if_present "CONTENT_TYPE" (part_if f.typed c.args.head.now f.start f.len) ∷ []
+abbrev type_row : Start → Rows
+type_row s =
+    let f = s.args.k.fields in
+    if_present "CONTENT_TYPE" (part_if f.typed s.args.head.now f.start f.len) ∷ []
 
 abbrev others : Start → Rows
-others c = if_present "AUTH_TYPE" (auth_type_of (auth_at c.args.facts.now c.args.k.settings.auth)) ∷ typeRow c
+others s = if_present "AUTH_TYPE" (auth_type_of (auth_at s.args.facts.now s.args.k.settings.auth)) ∷ type_row s
 
 abbrev kind : Start → List ℕ
-kind c = if_there (is_given c.args.k.settings.auth) (variable (bytes "AUTH_TYPE") (auth_type_at c.args.facts.now c.args.k.settings.auth))
+kind s = if_there (is_given s.args.k.settings.auth) (variable (bytes "AUTH_TYPE") (auth_type_at s.args.facts.now s.args.k.settings.auth))
 
-apart : (c : Start) → block c ≡ (bytes "CONTENT_LENGTH" ++ 0 ∷ []) ++ (decimal c.args.size ++ behind_digits (others c))
-apart c = content-start c.args.size (others c)
+apart : (s : Start) → block s ≡ (bytes "CONTENT_LENGTH" ++ 0 ∷ []) ++ (decimal s.args.size ++ behind_digits (others s))
+apart s = content-start s.args.size (others s)
 
-others_apart : (c : Start) → printed (present (others c)) ≡ kind c ++ printed (present (typeRow c))
-others_apart c = auth-type-row c.args.facts.now c.args.k.settings.auth (typeRow c)
+others_apart : (s : Start) → printed (present (others s)) ≡ kind s ++ printed (present (type_row s))
+others_apart s = auth-type-row s.args.facts.now s.args.k.settings.auth (type_row s)
 
 -- v is left
 abbrev Rest : Start → List ℕ → ℕ → List ℕ → Type 0
-Rest c out p v = Left c.args.out.now 0 (block c) out p v
+Rest s out p v = Left s.args.out.now 0 (block s) out p v
 
-start : (c : Start) → Rest c c.args.out.now 0 (block c)
-start c = left-all (omega (arith, c.requires.1))
+start : (s : Start) → Rest s s.args.out.now 0 (block s)
+start s = left-all (omega (arith, s.requires.1))
 
-first : (c : After-slice_known-2-1) → Rest (start₁ c) c.put-a.new.out c.put-a.result (decimal (start₁ c).args.size ++ behind_digits (others (start₁ c)))
-first c = left-more _ (apart (start₁ c)) (start (start₁ c)) c.put-a.ensures
+-- what is left after each of the pieces that are written
+module _ (s : Start) where
+  first : {o : List ℕ} {p : ℕ} → Wrote s.args.out.now 0 (bytes "CONTENT_LENGTH" ++ 0 ∷ []) o p → Rest s o p (decimal s.args.size ++ behind_digits (others s))
+  first x = left-more _ (apart s) (start s) x
 
-second : (c : After-slice_known-3-1) → Rest (start₂ c) c.write-b.new.out c.write-b.result (behind_digits (others (start₂ c)))
-second c = left-more _ refl ((let it : (λ out. λ p. λ v. Left c.args.out.now 0 ((printed (content_variables c.args.facts.now c.args.head.now c.args.k c.args.size))) out p v) c.put-a.new.out c.put-a.result (decimal c.args.size ++ behind_digits ((if_present "AUTH_TYPE" (auth_type_of (auth_at c.args.facts.now c.args.k.settings.auth)) ∷ (let f = c.args.k.fields in
-    if_present "CONTENT_TYPE" (part_if f.typed c.args.head.now f.start f.len) ∷ [])))) = left-more _ ((let it : (printed (content_variables c.args.facts.now c.args.head.now c.args.k c.args.size)) ≡ (bytes "CONTENT_LENGTH" ++ 0 ∷ []) ++ (decimal c.args.size ++ behind_digits ((if_present "AUTH_TYPE" (auth_type_of (auth_at c.args.facts.now c.args.k.settings.auth)) ∷ (let f = c.args.k.fields in
-    if_present "CONTENT_TYPE" (part_if f.typed c.args.head.now f.start f.len) ∷ [])))) = content-start c.args.size ((if_present "AUTH_TYPE" (auth_type_of (auth_at c.args.facts.now c.args.k.settings.auth)) ∷ (let f = c.args.k.fields in
-    if_present "CONTENT_TYPE" (part_if f.typed c.args.head.now f.start f.len) ∷ []))) in it)) ((let it : (λ out. λ p. λ v. Left c.args.out.now 0 ((printed (content_variables c.args.facts.now c.args.head.now c.args.k c.args.size))) out p v) c.args.out.now 0 ((printed (content_variables c.args.facts.now c.args.head.now c.args.k c.args.size))) = left-all (omega (arith, c.requires.1)) in it)) c.put-a.ensures in it)) c.write-b.ensures
+  second :
+      {o o' : List ℕ} {p p' : ℕ} → Rest s o p (decimal s.args.size ++ behind_digits (others s)) → Wrote o p (decimal s.args.size) o' p'
+      → Rest s o' p' (behind_digits (others s))
+  second r x = left-more _ refl r x
 
-third : (c : After-slice_known-4-1) → Rest (start₃ c) c.put-c.new.out c.put-c.result (printed (present (others (start₃ c))))
-third c = left-more _ refl ((let it : (λ out. λ p. λ v. Left c.args.out.now 0 ((printed (content_variables c.args.facts.now c.args.head.now c.args.k c.args.size))) out p v) c.write-b.new.out c.write-b.result (behind_digits ((if_present "AUTH_TYPE" (auth_type_of (auth_at c.args.facts.now c.args.k.settings.auth)) ∷ (let f = c.args.k.fields in
-    if_present "CONTENT_TYPE" (part_if f.typed c.args.head.now f.start f.len) ∷ [])))) = left-more _ refl ((let it : (λ out. λ p. λ v. Left c.args.out.now 0 ((printed (content_variables c.args.facts.now c.args.head.now c.args.k c.args.size))) out p v) c.put-a.new.out c.put-a.result (decimal c.args.size ++ behind_digits ((if_present "AUTH_TYPE" (auth_type_of (auth_at c.args.facts.now c.args.k.settings.auth)) ∷ (let f = c.args.k.fields in
-    if_present "CONTENT_TYPE" (part_if f.typed c.args.head.now f.start f.len) ∷ [])))) = left-more _ ((let it : (printed (content_variables c.args.facts.now c.args.head.now c.args.k c.args.size)) ≡ (bytes "CONTENT_LENGTH" ++ 0 ∷ []) ++ (decimal c.args.size ++ behind_digits ((if_present "AUTH_TYPE" (auth_type_of (auth_at c.args.facts.now c.args.k.settings.auth)) ∷ (let f = c.args.k.fields in
-    if_present "CONTENT_TYPE" (part_if f.typed c.args.head.now f.start f.len) ∷ [])))) = content-start c.args.size ((if_present "AUTH_TYPE" (auth_type_of (auth_at c.args.facts.now c.args.k.settings.auth)) ∷ (let f = c.args.k.fields in
-    if_present "CONTENT_TYPE" (part_if f.typed c.args.head.now f.start f.len) ∷ []))) in it)) ((let it : (λ out. λ p. λ v. Left c.args.out.now 0 ((printed (content_variables c.args.facts.now c.args.head.now c.args.k c.args.size))) out p v) c.args.out.now 0 ((printed (content_variables c.args.facts.now c.args.head.now c.args.k c.args.size))) = left-all (omega (arith, c.requires.1)) in it)) c.put-a.ensures in it)) c.write-b.ensures in it)) c.put-c.ensures
+  third :
+      {o o' : List ℕ} {p p' : ℕ} → Rest s o p (behind_digits (others s)) → Wrote o p (0 ∷ (bytes "SCGI" ++ 0 ∷ (bytes "1" ++ 0 ∷ []))) o' p'
+      → Rest s o' p' (printed (present (others s)))
+  third r x = left-more _ refl r x
 
-fourth : (c : After-slice_known-5-1) → Rest (start₄ c) c.put_optional-d.new.out c.put_optional-d.result (printed (present (typeRow (start₄ c))))
-fourth c =
-    left-more _ (others_apart (start₄ c)) ((let it : (λ out. λ p. λ v. Left c.args.out.now 0 ((printed (content_variables c.args.facts.now c.args.head.now c.args.k c.args.size))) out p v) c.put-c.new.out c.put-c.result (printed (present ((if_present "AUTH_TYPE" (auth_type_of (auth_at c.args.facts.now c.args.k.settings.auth)) ∷ (let f = c.args.k.fields in
-    if_present "CONTENT_TYPE" (part_if f.typed c.args.head.now f.start f.len) ∷ []))))) = left-more _ refl ((let it : (λ out. λ p. λ v. Left c.args.out.now 0 ((printed (content_variables c.args.facts.now c.args.head.now c.args.k c.args.size))) out p v) c.write-b.new.out c.write-b.result (behind_digits ((if_present "AUTH_TYPE" (auth_type_of (auth_at c.args.facts.now c.args.k.settings.auth)) ∷ (let f = c.args.k.fields in
-    if_present "CONTENT_TYPE" (part_if f.typed c.args.head.now f.start f.len) ∷ [])))) = left-more _ refl ((let it : (λ out. λ p. λ v. Left c.args.out.now 0 ((printed (content_variables c.args.facts.now c.args.head.now c.args.k c.args.size))) out p v) c.put-a.new.out c.put-a.result (decimal c.args.size ++ behind_digits ((if_present "AUTH_TYPE" (auth_type_of (auth_at c.args.facts.now c.args.k.settings.auth)) ∷ (let f = c.args.k.fields in
-    if_present "CONTENT_TYPE" (part_if f.typed c.args.head.now f.start f.len) ∷ [])))) = left-more _ ((let it : (printed (content_variables c.args.facts.now c.args.head.now c.args.k c.args.size)) ≡ (bytes "CONTENT_LENGTH" ++ 0 ∷ []) ++ (decimal c.args.size ++ behind_digits ((if_present "AUTH_TYPE" (auth_type_of (auth_at c.args.facts.now c.args.k.settings.auth)) ∷ (let f = c.args.k.fields in
-    if_present "CONTENT_TYPE" (part_if f.typed c.args.head.now f.start f.len) ∷ [])))) = content-start c.args.size ((if_present "AUTH_TYPE" (auth_type_of (auth_at c.args.facts.now c.args.k.settings.auth)) ∷ (let f = c.args.k.fields in
-    if_present "CONTENT_TYPE" (part_if f.typed c.args.head.now f.start f.len) ∷ []))) in it)) ((let it : (λ out. λ p. λ v. Left c.args.out.now 0 ((printed (content_variables c.args.facts.now c.args.head.now c.args.k c.args.size))) out p v) c.args.out.now 0 ((printed (content_variables c.args.facts.now c.args.head.now c.args.k c.args.size))) = left-all (omega (arith, c.requires.1)) in it)) c.put-a.ensures in it)) c.write-b.ensures in it)) c.put-c.ensures in it)) (rw (c.is_given-given.ensures, c.auth_type-kind.ensures.0) at c.put_optional-d.ensures)
-
-all : (c : After-slice_known-6-1) → Wrote (start₅ c).args.out.now 0 (block (start₅ c)) c.put_optional.new.out c.put_optional.result
-all c = left-last ((let it : (λ out. λ p. λ v. Left c.args.out.now 0 ((printed (content_variables c.args.facts.now c.args.head.now c.args.k c.args.size))) out p v) c.put_optional-d.new.out c.put_optional-d.result (printed (present ((let f = c.args.k.fields in
-    if_present "CONTENT_TYPE" (part_if f.typed c.args.head.now f.start f.len) ∷ [])))) = 
-    left-more _ ((let it : printed (present ((if_present "AUTH_TYPE" (auth_type_of (auth_at c.args.facts.now c.args.k.settings.auth)) ∷ (let f = c.args.k.fields in
-    if_present "CONTENT_TYPE" (part_if f.typed c.args.head.now f.start f.len) ∷ [])))) ≡ (if_there (is_given c.args.k.settings.auth) (variable (bytes "AUTH_TYPE") (auth_type_at c.args.facts.now c.args.k.settings.auth))) ++ printed (present ((let f = c.args.k.fields in
-    if_present "CONTENT_TYPE" (part_if f.typed c.args.head.now f.start f.len) ∷ []))) = auth-type-row c.args.facts.now c.args.k.settings.auth ((let f = c.args.k.fields in
-    if_present "CONTENT_TYPE" (part_if f.typed c.args.head.now f.start f.len) ∷ [])) in it)) ((let it : (λ out. λ p. λ v. Left c.args.out.now 0 ((printed (content_variables c.args.facts.now c.args.head.now c.args.k c.args.size))) out p v) c.put-c.new.out c.put-c.result (printed (present ((if_present "AUTH_TYPE" (auth_type_of (auth_at c.args.facts.now c.args.k.settings.auth)) ∷ (let f = c.args.k.fields in
-    if_present "CONTENT_TYPE" (part_if f.typed c.args.head.now f.start f.len) ∷ []))))) = left-more _ refl ((let it : (λ out. λ p. λ v. Left c.args.out.now 0 ((printed (content_variables c.args.facts.now c.args.head.now c.args.k c.args.size))) out p v) c.write-b.new.out c.write-b.result (behind_digits ((if_present "AUTH_TYPE" (auth_type_of (auth_at c.args.facts.now c.args.k.settings.auth)) ∷ (let f = c.args.k.fields in
-    if_present "CONTENT_TYPE" (part_if f.typed c.args.head.now f.start f.len) ∷ [])))) = left-more _ refl ((let it : (λ out. λ p. λ v. Left c.args.out.now 0 ((printed (content_variables c.args.facts.now c.args.head.now c.args.k c.args.size))) out p v) c.put-a.new.out c.put-a.result (decimal c.args.size ++ behind_digits ((if_present "AUTH_TYPE" (auth_type_of (auth_at c.args.facts.now c.args.k.settings.auth)) ∷ (let f = c.args.k.fields in
-    if_present "CONTENT_TYPE" (part_if f.typed c.args.head.now f.start f.len) ∷ [])))) = left-more _ ((let it : (printed (content_variables c.args.facts.now c.args.head.now c.args.k c.args.size)) ≡ (bytes "CONTENT_LENGTH" ++ 0 ∷ []) ++ (decimal c.args.size ++ behind_digits ((if_present "AUTH_TYPE" (auth_type_of (auth_at c.args.facts.now c.args.k.settings.auth)) ∷ typeRow c))) = content-start c.args.size ((if_present "AUTH_TYPE" (auth_type_of (auth_at c.args.facts.now c.args.k.settings.auth)) ∷ typeRow c)) in it)) ((let it : (λ out. λ p. λ v. Left c.args.out.now 0 (block c) out p v) c.args.out.now 0 ((printed (content_variables c.args.facts.now c.args.head.now c.args.k c.args.size))) = left-all (omega (arith, c.requires.1)) in it)) c.put-a.ensures in it)) c.write-b.ensures in it)) c.put-c.ensures in it)) (rw (c.is_given-given.ensures, c.auth_type-kind.ensures.0) at c.put_optional-d.ensures) in it)) (rw (content-type-row _ _ _ _) (rw (part _ _ _) at c.put_optional.ensures))
+  fourth : {o o' : List ℕ} {p p' : ℕ} → Rest s o p (printed (present (others s))) → Wrote o p (kind s) o' p' → Rest s o' p' (printed (present (type_row s)))
+  fourth r x = left-more _ (others_apart s) r x
 
 pub overflow_add-content_type : goal.overflow_add-content_type
 overflow_add-content_type c = search (rules, c.requires.0.1)
@@ -112,23 +74,32 @@ pub auth_type-kind-requires : goal.auth_type-kind-requires
 auth_type-kind-requires c = c.requires.0.0
 
 pub put-a-requires : goal.put-a-requires
-put-a-requires c = left-room (bytes "CONTENT_LENGTH" ++ 0 ∷ []) _ (apart (goal.at.put-a-requires c).Start) (start (goal.at.put-a-requires c).Start)
+put-a-requires c = let s = (goal.at.put-a-requires c).Start in left-room (bytes "CONTENT_LENGTH" ++ 0 ∷ []) _ (apart s) (start s)
 
 pub write-b-requires : goal.write-b-requires
-write-b-requires c = left-room (decimal c.args.size) _ refl (first (goal.at.write-b-requires c).After-slice_known-2-1)
+write-b-requires c = left-room (decimal c.args.size) _ refl (first (goal.at.write-b-requires c).Start c.put-a.ensures)
 
 pub put-c-requires : goal.put-c-requires
-put-c-requires c = left-room (0 ∷ (bytes "SCGI" ++ 0 ∷ (bytes "1" ++ 0 ∷ []))) _ refl (second (goal.at.put-c-requires c).After-slice_known-3-1)
+put-c-requires c =
+    let s = (goal.at.put-c-requires c).Start in
+    left-room (0 ∷ (bytes "SCGI" ++ 0 ∷ (bytes "1" ++ 0 ∷ []))) _ refl (second s (first s c.put-a.ensures) c.write-b.ensures)
 
 pub put_optional-d-requires : goal.put_optional-d-requires
 put_optional-d-requires c =
-    rw (c.is_given-given.ensures, c.auth_type-kind.ensures.0) (left-room ((if_there (is_given c.args.k.settings.auth) (variable (bytes "AUTH_TYPE") (auth_type_at c.args.facts.now c.args.k.settings.auth)))) _ (others_apart (goal.at.put_optional-d-requires c).Start) (third (goal.at.put_optional-d-requires c).After-slice_known-4-1))
+    let s = (goal.at.put_optional-d-requires c).Start in
+    rw (c.is_given-given.ensures, c.auth_type-kind.ensures.0)
+    (left-room (kind s) _ (others_apart s) (third s (second s (first s c.put-a.ensures) c.write-b.ensures) c.put-c.ensures))
 
 pub put_optional-requires : goal.put_optional-requires
-put_optional-requires c = rw (part _ _ _) (rw (content-type-row _ _ _ _) at (fourth (goal.at.put_optional-requires c).After-slice_known-5-1).room)
-
-pub shape_of-out : goal.shape_of-out
-shape_of-out c = wrote-length (all c) (omega (arith, (start₅ c).requires.1))
+put_optional-requires c =
+    let s = (goal.at.put_optional-requires c).Start in
+    let r = third s (second s (first s c.put-a.ensures) c.write-b.ensures) c.put-c.ensures in
+    rw (part _ _ _)
+    (rw (content-type-row _ _ _ _) at (fourth s r (rw (c.is_given-given.ensures, c.auth_type-kind.ensures.0) at c.put_optional-d.ensures)).room)
 
 pub returns : goal.returns
-returns c = all c
+returns c =
+    let s = (goal.at.returns c).Start in
+    let r = third s (second s (first s c.put-a.ensures) c.write-b.ensures) c.put-c.ensures in
+    left-last (fourth s r (rw (c.is_given-given.ensures, c.auth_type-kind.ensures.0) at c.put_optional-d.ensures))
+    (rw (content-type-row _ _ _ _) (rw (part _ _ _) at c.put_optional.ensures))

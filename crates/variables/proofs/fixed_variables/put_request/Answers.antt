@@ -1,7 +1,9 @@
+use Rattle.octets.specs.Copy.{Wrote}
 use Prim.Native.Nat.{ℕ}
-use mathlib.Core.Path.{◌≡◌}
+use mathlib.Core.Path.{◌≡◌, sym}
 use mathlib.Core.List.{List, [], ◌∷◌, ◌++◌}
 use lib.ListN.{take, drop}
+use lib.Seq.{length-take-le}
 use borrow.Author.Rules.{rules}
 use Rattle.octets.specs.Text.{bytes}
 use Rattle.octets.proofs.Lists.{part}
@@ -14,54 +16,45 @@ use Rattle.variables.specs.FixedVariables.{request_variables}
 use Rattle.variables.proofs.Puts.{Left, left-all, left-room, left-more}
 use Rattle.variables.proofs.FixedVariables.{RowsLeft, row_room, row_more, row_last, remote-user-row}
 use Rattle.variables.proofs.fixed_variables.put_request.Goals as goal
-use Rattle.variables.proofs.fixed_variables.put_request.Goals.{After-slice_known-2-1, After-slice_known-3-1, Start}
-
--- The start, from each place where one more is written.
-abbrev start₁ : After-slice_known-2-1 → Start
-start₁ c = c
-
-abbrev start₂ : After-slice_known-3-1 → Start
-start₂ c = c
+use Rattle.variables.proofs.fixed_variables.put_request.Goals.{Start}
 
 abbrev rows : Start → List Header
-rows c = request_variables c.args.facts.now c.args.head.now c.args.k
+rows s = request_variables s.args.facts.now s.args.head.now s.args.k
 
 -- the rows behind REMOTE_USER
 abbrev others : Start → Rows
-others c = always "REQUEST_METHOD" (take c.args.k.line.method c.args.head.now) ∷ always "REQUEST_URI" (target_in c.args.head.now c.args.k.line) ∷ []
+others s = always "REQUEST_METHOD" (take s.args.k.line.method s.args.head.now) ∷ always "REQUEST_URI" (target_in s.args.head.now s.args.k.line) ∷ []
 
 -- n of them are written
 abbrev Rest : Start → List ℕ → ℕ → ℕ → Type 0
-Rest c out p n = RowsLeft c.args.out.now c.args.at (printed (rows c)) out p (drop n (present (others c)))
+Rest s out p n = RowsLeft s.args.out.now s.args.at (printed (rows s)) out p (drop n (present (others s)))
 
 abbrev user : Start → List ℕ
-user c = if_there (is_given c.args.k.settings.auth) (variable (bytes "REMOTE_USER") (remote_user_at c.args.facts.now c.args.k.settings.auth))
+user s = if_there (is_given s.args.k.settings.auth) (variable (bytes "REMOTE_USER") (remote_user_at s.args.facts.now s.args.k.settings.auth))
 
-apart : (c : Start) → printed (rows c) ≡ user c ++ printed (present (others c))
-apart c = remote-user-row c.args.facts.now c.args.k.settings.auth (others c)
+apart : (s : Start) → printed (rows s) ≡ user s ++ printed (present (others s))
+apart s = remote-user-row s.args.facts.now s.args.k.settings.auth (others s)
 
-start : (c : Start) → Left c.args.out.now c.args.at (printed (rows c)) c.args.out.now c.args.at (printed (rows c))
-start c = left-all c.requires.1
+start : (s : Start) → Left s.args.out.now s.args.at (printed (rows s)) s.args.out.now s.args.at (printed (rows s))
+start s = left-all s.requires.1
 
-first : (c : After-slice_known-2-1) → Rest (start₁ c) c.put_optional-a.new.out c.put_optional-a.result 0
-first c =
-    record {
-      bytes_left = left-more (printed (present (others (start₁ c)))) (apart (start₁ c)) (start (start₁ c)) (rw (c.is_given-given.ensures, c.remote_user-user.ensures.0) at c.put_optional-a.ensures);
-    }
-
-second : (c : After-slice_known-3-1) → Rest (start₂ c) c.put_variable-b.new.out c.put_variable-b.result 1
-second c = row_more ((let it : (λ out. λ p. λ n. RowsLeft c.args.out.now c.args.at (printed ((request_variables c.args.facts.now c.args.head.now c.args.k))) out p (drop n (present ((always "REQUEST_METHOD" (take c.args.k.line.method c.args.head.now) ∷ always "REQUEST_URI" (target_in c.args.head.now c.args.k.line) ∷ []))))) c.put_optional-a.new.out c.put_optional-a.result 0 = record {
-      bytes_left = left-more (printed (present ((always "REQUEST_METHOD" (take c.args.k.line.method c.args.head.now) ∷ always "REQUEST_URI" (target_in c.args.head.now c.args.k.line) ∷ [])))) ((let it : printed ((request_variables c.args.facts.now c.args.head.now c.args.k)) ≡ (if_there (is_given c.args.k.settings.auth) (variable (bytes "REMOTE_USER") (remote_user_at c.args.facts.now c.args.k.settings.auth))) ++ printed (present ((always "REQUEST_METHOD" (take c.args.k.line.method c.args.head.now) ∷ always "REQUEST_URI" (target_in c.args.head.now c.args.k.line) ∷ []))) = remote-user-row c.args.facts.now c.args.k.settings.auth ((always "REQUEST_METHOD" (take c.args.k.line.method c.args.head.now) ∷ always "REQUEST_URI" (target_in c.args.head.now c.args.k.line) ∷ [])) in it)) ((let it : Left c.args.out.now c.args.at (printed ((request_variables c.args.facts.now c.args.head.now c.args.k))) c.args.out.now c.args.at (printed ((request_variables c.args.facts.now c.args.head.now c.args.k))) = left-all c.requires.1 in it)) (rw (c.is_given-given.ensures, c.remote_user-user.ensures.0) at c.put_optional-a.ensures);
-    } in it)) c.put_variable-b.ensures
+first : (s : Start) {o : List ℕ} {p : ℕ} → Wrote s.args.out.now s.args.at (user s) o p → Rest s o p 0
+first s x = record { bytes_left = left-more (printed (present (others s))) (apart s) (start s) x }
 
 pub remote_user-user-requires : goal.remote_user-user-requires
 remote_user-user-requires c = c.requires.0.0
 
 pub put_optional-a-requires : goal.put_optional-a-requires
-put_optional-a-requires c = rw (c.is_given-given.ensures, c.remote_user-user.ensures.0) (left-room ((if_there (is_given c.args.k.settings.auth) (variable (bytes "REMOTE_USER") (remote_user_at c.args.facts.now c.args.k.settings.auth)))) _ (apart (goal.at.put_optional-a-requires c).Start) (start (goal.at.put_optional-a-requires c).Start))
+put_optional-a-requires c =
+    let s = (goal.at.put_optional-a-requires c).Start in
+    rw (c.is_given-given.ensures, c.remote_user-user.ensures.0) (left-room (user s) _ (apart s) (start s))
+
+pub slice_bounds-put_variable-end-2 : goal.slice_bounds-put_variable-end-2
+slice_bounds-put_variable-end-2 c = sym (length-take-le _ _ c.requires.0.1)
 
 pub put_variable-b-requires : goal.put_variable-b-requires
-put_variable-b-requires c = row_room (first (goal.at.put_variable-b-requires c).After-slice_known-2-1)
+put_variable-b-requires c =
+    row_room (first (goal.at.put_variable-b-requires c).Start (rw (c.is_given-given.ensures, c.remote_user-user.ensures.0) at c.put_optional-a.ensures))
 
 pub overflow_add-start : goal.overflow_add-start
 overflow_add-start c = search (rules, c.requires.0.2)
@@ -70,7 +63,15 @@ pub slice_bounds-put_variable-end-4 : goal.slice_bounds-put_variable-end-4
 slice_bounds-put_variable-end-4 c = c.requires.0.2
 
 pub put_variable-requires : goal.put_variable-requires
-put_variable-requires c = rw (part _ _ _) (row_room (second (goal.at.put_variable-requires c).After-slice_known-3-1))
+put_variable-requires c =
+    let s = (goal.at.put_variable-requires c).Start in
+    let second : Rest s c.put_variable-b.new.out c.put_variable-b.result 1 =
+    row_more (first s (rw (c.is_given-given.ensures, c.remote_user-user.ensures.0) at c.put_optional-a.ensures)) c.put_variable-b.ensures in
+    rw (part _ _ _) (row_room second)
 
 pub returns : goal.returns
-returns c = row_last (second (goal.at.returns c).After-slice_known-3-1) (rw (part _ _ _) at c.put_variable.ensures)
+returns c =
+    let s = (goal.at.returns c).Start in
+    let second : Rest s c.put_variable-b.new.out c.put_variable-b.result 1 =
+    row_more (first s (rw (c.is_given-given.ensures, c.remote_user-user.ensures.0) at c.put_optional-a.ensures)) c.put_variable-b.ensures in
+    row_last second (rw (part _ _ _) at c.put_variable.ensures)
