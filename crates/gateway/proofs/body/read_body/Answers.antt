@@ -1,5 +1,3 @@
--- `gateway::body::read_body` meets its contract.
--- Assumes nothing.
 use Prim.Native.Nat.{ℕ, ◌≤◌, ◌<◌}
 use mathlib.Core.Path.{◌≡◌, sym}
 use mathlib.Core.List.{List}
@@ -7,8 +5,7 @@ use lib.ListN.{length}
 use borrow.Author.Tests.{le-leb, lt-leb}
 use Rattle.octets.specs.Outcome.{refused, gives}
 use Rattle.gateway.specs.Body.{body_of, length_of}
-use Rattle.gateway.proofs.body.read_body.Statement.{statement}
-use Rattle.gateway.proofs.body.read_body.Tie as tie
+use Rattle.gateway.proofs.body.read_body.Goals as goal
 
 module _ (most n : ℕ) (s : List ℕ) where
   above : most < n → length_of most n s ≡ refused 9
@@ -24,14 +21,11 @@ module _ (most n : ℕ) (s : List ℕ) where
     unfolding body_of
     there b = rw (le-leb n most a, le-leb n (length s) b)
 
-returns : tie.Need-returns
-returns c = sym (above _ _ _ c.if1.true)
+pub returns-then-limit-stated : goal.returns-then-limit-stated
+returns-then-limit-stated c = sym (above _ _ _ c.if-limit-stated.true)
 
-returns-2 : tie.Need-returns-2
-returns-2 c = sym (short _ _ _ c.before.if1.false c.if2.true)
+pub returns-then-after-len : goal.returns-then-after-len
+returns-then-after-len c = sym (short _ _ _ c.if-limit-stated.false c.if-after-len.true)
 
-returns-3 : tie.Need-returns-3
-returns-3 c = sym (there _ _ _ c.before.if1.false c.if2.false)
-
-pub read-body-spec : {M : Type 1} → statement M
-read-body-spec = tie.close (tie.spec returns returns-2 returns-3)
+pub returns : goal.returns
+returns c = sym (there _ _ _ c.if-limit-stated.false c.if-after-len.false)
