@@ -11,7 +11,7 @@ unfolding found_of
 loop-k-init c = (search rules, refl)
 
 pub with_field-seen-requires : goal.with_field-seen-requires
-with_field-seen-requires c = 
+with_field-seen-requires c =
     (omega (arith, c.requires.0), rw c.loop-k.invariant.1 (found-few _ _ _ _), c.requires.2 _ c.loop-k-test.true)
 
 pub loop-k-smaller : goal.loop-k-smaller

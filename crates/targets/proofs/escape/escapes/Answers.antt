@@ -19,13 +19,12 @@ pub loop-i-smaller : goal.loop-i-smaller
 loop-i-smaller c = omega arith
 
 pub loop-i-preserved : goal.loop-i-preserved
-loop-i-preserved c =
-    (
-      omega arith,
-      c.loop-i.invariant.1
-          ∙ escapes-next _ _ c.loop-i-test.true
-          ∙ rw (sym c.right_at.ensures ∙ c.if-not-right_at.false),
-    )
+loop-i-preserved c = (
+  omega arith,
+  c.loop-i.invariant.1
+      ∙ escapes-next _ _ c.loop-i-test.true
+      ∙ rw (sym c.right_at.ensures ∙ c.if-not-right_at.false),
+)
 
 pub returns : goal.returns
 returns c = sym (c.loop-i.invariant.1 ∙ escapes-none _ _ c.loop-i-test.false)
