@@ -1,4 +1,3 @@
-use Prim.Native.Nat.{◌-◌}
 use Rattle.request.proofs.NamedFields.{found-few, found-next}
 use Rattle.request.specs.Rules.{with_field, found_of}
 use borrow.Author.Rules.{rules}

@@ -1,5 +1,4 @@
 use mathlib.Core.Path.{refl, sym, ◌∙◌}
-use Prim.Native.Nat.{◌-◌}
 use Rattle.octets.proofs.Scans.{all-stop, all_more, all_none}
 use Rattle.response.specs.Location.{is_visible}
 use borrow.Author.Rules.{rules}

@@ -1,5 +1,4 @@
 use mathlib.Core.Path.{refl, sym, ◌∙◌}
-use Prim.Native.Nat.{◌-◌}
 use Rattle.targets.proofs.Escapes.{escapes-next, escapes-none}
 use borrow.Author.Rules.{rules}
 use native.Mathlib.Omega.{arith}
