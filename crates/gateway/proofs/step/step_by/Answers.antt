@@ -36,26 +36,26 @@ use Rattle.gateway.specs.declared.step.Stepping.TheVariants.{Refused}
 use Rattle.gateway.proofs.StepParts.{left_alone, step-lent, step-head, step-read, step-mount, step-body, step-written, answered-by, mount_by, lost, Won, won, body_refused, BodyThere, body_there, block_is, fields-count}
 use Rattle.gateway.proofs.Fits.{bound-holds, bound-limit}
 use Rattle.gateway.proofs.step.step_by.Goals as goal
-use Rattle.gateway.proofs.step.step_by.Goals.{After-answered, In-Bytes, In-Bytes-b, In-Found, In-Lent, In-Request, Start}
+use Rattle.gateway.proofs.step.step_by.Goals.{Start, In-Lent, In-Bytes, In-Request, In-Found, After-places-3-1}
 
--- What is lent, and what each pattern gave.
-abbrev http : Start → List ℕ
-http c = c.args.http.now
+-- The places where a pattern matched, and that of the last one's writing: each leads to the one before.
 
-abbrev settings : In-Lent → SettingPlaces
-settings c = c.in-Lent.settings
+abbrev lent₂ : In-Bytes → In-Lent
+lent₂ c = (goal.at.slice_bounds-head-count c).In-Lent
 
-abbrev headLength : In-Bytes → ℕ
-headLength c = c.in-Bytes.head_len
+abbrev head₃ : In-Request → In-Bytes
+head₃ c = (goal.at.slice_bounds-search-end c).In-Bytes
+
+abbrev read₄ : In-Found → In-Request
+read₄ c = (goal.at.slice_bounds-after-count c).In-Request
+
+abbrev mount₅ : After-places-3-1 → In-Found
+mount₅ c = (goal.at.slice_bounds-write_request-end-2 c).In-Found
+
+-- What each pattern gave.
 
 abbrev head : In-Request → List ℕ
-head c = take (headLength (goal.at.slice_bounds-search-end c).In-Bytes - 4) (http (goal.at.slice_bounds-search-end c).Start)
-
-abbrev line : In-Request → LinePlaces
-line c = c.in-Request.line
-
-abbrev fields : In-Request → FieldPlaces
-fields c = c.in-Request.fields
+head c = take (c.in-Bytes.head_len - 4) c.args.http.now
 
 abbrev places : In-Request → List ℕ
 places c = c.read_request-q.new.places
@@ -64,36 +64,29 @@ abbrev path : In-Request → List ℕ
 path c = c.read_request-q.new.path
 
 abbrev request : In-Request → Request
-request c = request_in (head c) (places c) (path c) (line c) (fields c)
-
--- the mount's name by its length, its pool by start and length, and its limit
-abbrev limit : In-Found → ℕ
-limit c = c.in-Found.limit
+request c = request_in (head c) (places c) (path c) c.in-Request.line c.in-Request.fields
 
 abbrev chosen : In-Found → Mount
-chosen c = mount_by (request (goal.at.slice_bounds-after-count c).In-Request).path c.in-Found.name_len c.in-Found.pool_start c.in-Found.pool_len (limit c)
-
--- the body's length
-abbrev size : In-Bytes-b → ℕ
-size c = c.in-Bytes-b.len
+chosen c = mount_by (request (read₄ c)).path c.in-Found.name_len c.in-Found.pool_start c.in-Found.pool_len c.in-Found.limit
 
 -- What is known there.
-lent : (c : In-Lent) → (let a = c.args in Accepted a.facts.now a.site.now a.mounts.now (settings c))
+
+lent : (c : In-Lent) → Accepted c.args.facts.now c.args.site.now c.args.mounts.now c.in-Lent.settings
 lent c = lent-told.accepts _ _ _ _ (rw c.in-Lent.is at c.check-c.ensures)
 
 abbrev lending : In-Lent → Lent
-lending c = record { settings = settings_at c.args.facts.now c.args.site.now (settings c); mounts = (lent c).ms }
+lending c = record { settings = settings_at c.args.facts.now c.args.site.now c.in-Lent.settings; mounts = (lent c).ms }
 
-headed : (c : In-Bytes) → head_of (http (goal.at.slice_bounds-head-count c).Start) ≡ gives (headLength c)
+headed : (c : In-Bytes) → head_of c.args.http.now ≡ gives c.in-Bytes.head_len
 headed c = sym c.requires.answer ∙ ap head_outcome c.in-Bytes.is
 
-within : (c : In-Bytes) → HeadWithin (http (goal.at.slice_bounds-head-count c).Start) (headLength c)
+within : (c : In-Bytes) → HeadWithin c.args.http.now c.in-Bytes.head_len
 within c = heads-hold.within _ _ (headed c)
 
-path_room : (c : In-Bytes) → min (headLength c) 4096 ≤ length c.args.path.now
+path_room : (c : In-Bytes) → min c.in-Bytes.head_len 4096 ≤ length c.args.path.now
 path_room c = subst (λ (h : Head). PathFits h (length c.args.path.now)) c.in-Bytes.is c.requires.path
 
-read : (c : In-Request) → RequestStands (head c) (places c) (path c) (line c) (fields c)
+read : (c : In-Request) → RequestStands (head c) (places c) (path c) c.in-Request.line c.in-Request.fields
 read c = requests-told.accepts _ _ _ _ _ _ _ (rw c.in-Request.is at c.read_request-q.ensures)
 
 numbers : (c : In-Request) → 256 ≤ length (places c)
@@ -104,122 +97,91 @@ same-path c = search rules
 
 mount :
     (c : In-Found)
-    → (let l = lent (lent₂ (c)) in
-    Won c.args.mounts.now (request (goal.at.slice_bounds-after-count c).In-Request).path l.ms l.mounts_are c.in-Found.name_len c.in-Found.pool_start c.in-Found.pool_len (limit c))
+    → (let l = lent (lent₂ (head₃ (read₄ c))) in
+    Won c.args.mounts.now (request (read₄ c)).path l.ms l.mounts_are c.in-Found.name_len c.in-Found.pool_start c.in-Found.pool_len c.in-Found.limit)
 mount c = won _ _ _ _ _ _ _ _ (ap mount_outcome (sym c.in-Found.is) ∙ c.search-m.ensures)
 
-sized :
-    (c : In-Bytes-b)
-    → (let r = c in
-    BodyThere ((c.in-Found.limit)) (request r).body_length ((c.args.http.now)) (headLength (r)) (size c))
+sized : (c : After-places-3-1) → BodyThere c.in-Found.limit (request (read₄ (mount₅ c))).body_length c.args.http.now c.in-Bytes.head_len c.in-Bytes-b.len
 sized c = body_there _ _ _ _ _ (ap body_outcome (sym c.in-Bytes-b.is) ∙ c.read_body-b.ensures)
 
--- What the step gives at each place.
+-- What the step gives.
+
 abbrev answer : Start → Outcome Forward
-answer c = step_of c.args.facts.now c.args.site.now c.args.mounts.now (http c) (length c.args.out.now)
+answer s = step_of s.args.facts.now s.args.site.now s.args.mounts.now s.args.http.now (length s.args.out.now)
 
 refuses : (s : Start) (k : ℕ) → answer s ≡ refused k → Stepped (answer s) s.args.out.now s.args.out.now (Refused k)
 refuses s k e = left_alone (answer s) s.args.out.now k e
 
 -- What is written.
-abbrev body : In-Bytes-b → List ℕ
-body c =
-    let h = headLength (head₃ (c)) in
-    take (size c) (take (length ((c.args.http.now)) - h) (drop h ((c.args.http.now))))
 
-abbrev sources : In-Bytes-b → Sources
-sources c =
-    let r = c in
-    record { settings = settings ((r)); line = line r; fields = fields r; name = c.?before.m.given.0.0 }
+abbrev body : After-places-3-1 → List ℕ
+body c = take c.in-Bytes-b.len (take (length c.args.http.now - c.in-Bytes.head_len) (drop c.in-Bytes.head_len c.args.http.now))
 
-small : (c : In-Bytes-b) → length (body c) ≤ 1048576
-small c = simp length-take (omega (arith, (sized c).limit, ((let it : (let l = lent (lent₂ (head₃ c)) in
-    Won ((start₃ c)).args.mounts.now ((request_in ((take ((c.in-Bytes.head_len) - 4) (http ((start₂ c))))) ((c.read_request-q.new.places)) ((c.read_request-q.new.path)) ((c.in-Request.line)) ((c.in-Request.fields)))).path l.ms l.mounts_are c.in-Found.name_len c.in-Found.pool_start c.in-Found.pool_len ((c.in-Found.limit))) = won _ _ _ _ _ _ _ _ (ap mount_outcome (sym c.in-Found.is) ∙ c.search-m.ensures) in it)).small))
+abbrev sources : After-places-3-1 → Sources
+sources c = record { settings = c.in-Lent.settings; line = c.in-Request.line; fields = c.in-Request.fields; name = c.in-Found.name_len }
+
+small : (c : After-places-3-1) → length (body c) ≤ 1048576
+small c = simp length-take (omega (arith, (sized c).limit, (mount (mount₅ c)).small))
 
 -- the variables of the step
-abbrev printing : In-Bytes-b → List ℕ
+abbrev printing : After-places-3-1 → List ℕ
 printing c =
-    let q = request (c) in
-    printed (variables (lending (lent₂ (head₃ (c)))).settings (route_of ((mount_by ((request_in ((take ((c.in-Bytes.head_len) - 4) (http ((start₂ c))))) ((c.read_request-q.new.places)) ((c.read_request-q.new.path)) ((c.in-Request.line)) ((c.in-Request.fields)))).path c.in-Found.name_len c.in-Found.pool_start c.in-Found.pool_len ((c.in-Found.limit)))) q.path) (meaning_of q.first q.fields (body c)))
+    let q = request (read₄ (mount₅ c)) in
+    printed (variables (lending (lent₂ (head₃ (read₄ (mount₅ c))))).settings (route_of (chosen (mount₅ c)) q.path) (meaning_of q.first q.fields (body c)))
 
-abbrev block : In-Bytes-b → List ℕ
+abbrev block : After-places-3-1 → List ℕ
 block c =
-    let a = c.args in
-    let r = c in
-    block_for a.facts.now a.site.now (head r) (places r) (path r) (body c) (sources c)
+    let r = read₄ (mount₅ c) in
+    block_for c.args.facts.now c.args.site.now (head r) (places r) (path r) (body c) (sources c)
 
-is_block : (c : In-Bytes-b) → block c ≡ printing c
+is_block : (c : After-places-3-1) → block c ≡ printing c
 is_block c =
-    let m = (mount_by ((request_in ((take ((c.in-Bytes.head_len) - 4) (http ((start₂ c))))) ((c.read_request-q.new.places)) ((c.read_request-q.new.path)) ((c.in-Request.line)) ((c.in-Request.fields)))).path c.in-Found.name_len c.in-Found.pool_start c.in-Found.pool_len ((c.in-Found.limit))) in
-    block_is _ _ _ _ _ (sources c) (body c) m.pool_start m.pool_length m.limit ((let it : (let l = lent (lent₂ (head₃ c)) in
-    Won ((start₃ c)).args.mounts.now ((request_in ((take ((c.in-Bytes.head_len) - 4) (http ((start₂ c))))) ((c.read_request-q.new.places)) ((c.read_request-q.new.path)) ((c.in-Request.line)) ((c.in-Request.fields)))).path l.ms l.mounts_are c.in-Found.name_len c.in-Found.pool_start c.in-Found.pool_len ((c.in-Found.limit))) = won _ _ _ _ _ _ _ _ (ap mount_outcome (sym c.in-Found.is) ∙ c.search-m.ensures) in it)).inside (length (body c)) refl
+    let m = chosen (mount₅ c) in
+    block_is _ _ _ _ _ (sources c) (body c) m.pool_start m.pool_length m.limit (mount (mount₅ c)).inside (length (body c)) refl
 
 -- .. fit
 fits :
-    (c : In-Bytes-b)
-    → (let a = c.args in
-    let r = c in
-    RequestFits a.facts.now a.site.now (head r) (places r) (path r) (body c) (sources c))
+    (c : After-places-3-1)
+    → (let r = read₄ (mount₅ c) in
+    RequestFits c.args.facts.now c.args.site.now (head r) (places r) (path r) (body c) (sources c))
 fits c =
-    let l = c in
-    let q = (request_in ((take ((c.in-Bytes.head_len) - 4) (http ((start₂ c))))) ((c.read_request-q.new.places)) ((c.read_request-q.new.path)) ((c.in-Request.line)) ((c.in-Request.fields))) in
-    let w = (let it : HeadWithin (http ((start₁ c))) ((c.in-Bytes.head_len)) = heads-hold.within _ _ ((let it : head_of (http ((start₁ c))) ≡ gives ((c.in-Bytes.head_len)) = sym ((start₁ c)).requires.answer ∙ ap head_outcome c.in-Bytes.is in it)) in it) in
-    let t = (c.in-Request.line) in
-    let h : length ((take ((c.in-Bytes.head_len) - 4) (http ((start₂ c))))) ≤ 8188 = simp length-take (omega (arith, w.limit)) in
+    let m = mount₅ c in
+    let r = read₄ m in
+    let l = lent₂ (head₃ r) in
+    let q = request r in
+    let w = within (head₃ r) in
+    let t = c.in-Request.line in
+    let h : length (head r) ≤ 8188 = simp length-take (omega (arith, w.limit)) in
     let target : length q.first.target ≡ t.len =
-    length-take-le t.len (drop t.target ((take ((c.in-Bytes.head_len) - 4) (http ((start₂ c)))))) (omega (arith, length-drop t.target ((take ((c.in-Bytes.head_len) - 4) (http ((start₂ c))))), ((let it : RequestStands ((take ((c.in-Bytes.head_len) - 4) (http ((start₂ c))))) ((c.read_request-q.new.places)) ((c.read_request-q.new.path)) ((c.in-Request.line)) ((c.in-Request.fields)) = requests-told.accepts _ _ _ _ _ _ _ (rw c.in-Request.is at c.read_request-q.ensures) in it)).line.target_inside)) in
-    let count : length q.fields ≡ ((c.in-Request.fields)).count = fields-count ((take ((c.in-Bytes.head_len) - 4) (http ((start₂ c))))) ((c.read_request-q.new.places)) 0 ((c.in-Request.fields)).count in
-    let bound = bound-holds _ _ _ ((take ((c.in-Bytes.head_len) - 4) (http ((start₂ c))))) (body c) (lending l) q ((mount_by ((request_in ((take ((c.in-Bytes.head_len) - 4) (http ((start₂ c))))) ((c.read_request-q.new.places)) ((c.read_request-q.new.path)) ((c.in-Request.line)) ((c.in-Request.fields)))).path c.in-Found.name_len c.in-Found.pool_start c.in-Found.pool_len ((c.in-Found.limit)))) (lent l).lent (sym ((let it : RequestStands ((take ((c.in-Bytes.head_len) - 4) (http ((start₂ c))))) ((c.read_request-q.new.places)) ((c.read_request-q.new.path)) ((c.in-Request.line)) ((c.in-Request.fields)) = requests-told.accepts _ _ _ _ _ _ _ (rw c.in-Request.is at c.read_request-q.ensures) in it)).answer) ((let it : (let l = lent (lent₂ (head₃ c)) in
-    Won ((start₃ c)).args.mounts.now ((request_in ((take ((c.in-Bytes.head_len) - 4) (http ((start₂ c))))) ((c.read_request-q.new.places)) ((c.read_request-q.new.path)) ((c.in-Request.line)) ((c.in-Request.fields)))).path l.ms l.mounts_are c.in-Found.name_len c.in-Found.pool_start c.in-Found.pool_len ((c.in-Found.limit))) = won _ _ _ _ _ _ _ _ (ap mount_outcome (sym c.in-Found.is) ∙ c.search-m.ensures) in it)).wins (small c) in
-    let limit = bound-limit _ _ _ ((take ((c.in-Bytes.head_len) - 4) (http ((start₂ c))))) (body c) (lending l) q ((mount_by ((request_in ((take ((c.in-Bytes.head_len) - 4) (http ((start₂ c))))) ((c.read_request-q.new.places)) ((c.read_request-q.new.path)) ((c.in-Request.line)) ((c.in-Request.fields)))).path c.in-Found.name_len c.in-Found.pool_start c.in-Found.pool_len ((c.in-Found.limit)))) (lent l).lent (sym ((let it : RequestStands ((take ((c.in-Bytes.head_len) - 4) (http ((start₂ c))))) ((c.read_request-q.new.places)) ((c.read_request-q.new.path)) ((c.in-Request.line)) ((c.in-Request.fields)) = requests-told.accepts _ _ _ _ _ _ _ (rw c.in-Request.is at c.read_request-q.ensures) in it)).answer) ((let it : (let l = lent (lent₂ (head₃ c)) in
-    Won ((start₃ c)).args.mounts.now ((request_in ((take ((c.in-Bytes.head_len) - 4) (http ((start₂ c))))) ((c.read_request-q.new.places)) ((c.read_request-q.new.path)) ((c.in-Request.line)) ((c.in-Request.fields)))).path l.ms l.mounts_are c.in-Found.name_len c.in-Found.pool_start c.in-Found.pool_len ((c.in-Found.limit))) = won _ _ _ _ _ _ _ _ (ap mount_outcome (sym c.in-Found.is) ∙ c.search-m.ensures) in it)).wins (small c) h in
+    length-take-le t.len (drop t.target (head r)) (omega (arith, length-drop t.target (head r), (read r).line.target_inside)) in
+    let count : length q.fields ≡ c.in-Request.fields.count = fields-count (head r) (places r) 0 c.in-Request.fields.count in
+    let bound = bound-holds _ _ _ (head r) (body c) (lending l) q (chosen m) (lent l).lent (sym (read r).answer) (mount m).wins (small c) in
+    let limit = bound-limit _ _ _ (head r) (body c) (lending l) q (chosen m) (lent l).lent (sym (read r).answer) (mount m).wins (small c) h in
     record {
       known =
           record {
             settings = (lent l).inside;
-            line = ((let it : RequestStands ((take ((c.in-Bytes.head_len) - 4) (http ((start₂ c))))) ((c.read_request-q.new.places)) ((c.read_request-q.new.path)) ((c.in-Request.line)) ((c.in-Request.fields)) = requests-told.accepts _ _ _ _ _ _ _ (rw c.in-Request.is at c.read_request-q.ensures) in it)).line;
-            fields = ((let it : RequestStands ((take ((c.in-Bytes.head_len) - 4) (http ((start₂ c))))) ((c.read_request-q.new.places)) ((c.read_request-q.new.path)) ((c.in-Request.line)) ((c.in-Request.fields)) = requests-told.accepts _ _ _ _ _ _ _ (rw c.in-Request.is at c.read_request-q.ensures) in it)).fields;
-            numbers = (let it : 256 ≤ length ((c.read_request-q.new.places)) = search rules in it);
-            name = omega (arith, ((let it : (let l = lent (lent₂ (head₃ c)) in
-    Won ((start₃ c)).args.mounts.now ((request_in ((take ((c.in-Bytes.head_len) - 4) (http ((start₂ c))))) ((c.read_request-q.new.places)) ((c.read_request-q.new.path)) ((c.in-Request.line)) ((c.in-Request.fields)))).path l.ms l.mounts_are c.in-Found.name_len c.in-Found.pool_start c.in-Found.pool_len ((c.in-Found.limit))) = won _ _ _ _ _ _ _ _ (ap mount_outcome (sym c.in-Found.is) ∙ c.search-m.ensures) in it)).inside, length-take t.decoded ((c.read_request-q.new.path)));
+            line = (read r).line;
+            fields = (read r).fields;
+            numbers = numbers r;
+            name = omega (arith, (mount m).inside, length-take t.decoded (path r));
           };
       small = small c;
       bound = rw (is_block c) (omega (arith, bound, target, count));
       limit = omega (arith, limit, target, count);
     }
 
--- the answer and the output, by what the writer says
-made :
-    (c : After-answered)
-    → (
-    let m = chosen (goal.at.shape_of-path c).In-Found in
-    let w = c.write_request-w in
-    let u = headLength (head₃ (c)) + size (goal.at.shape_of-path c).In-Bytes-b in
-    Stepped (answer (goal.at.shape_of-path c).Start) c.args.out.now w.new.out (stepping_by m.pool_start m.pool_length u w.result))
-made c =
-    let l = c in
-    let b : Body = record { body = body (goal.at.shape_of-path c).In-Bytes-b; used = size (goal.at.shape_of-path c).In-Bytes-b } in
-    let f : Forward = forward_by (chosen (goal.at.shape_of-path c).In-Found) (netstring (printing (goal.at.shape_of-path c).In-Bytes-b) ++ body (goal.at.shape_of-path c).In-Bytes-b) (headLength (goal.at.shape_of-path c).In-Bytes + size (goal.at.shape_of-path c).In-Bytes-b) in
-    rw (step-written _ _ _ _ _ (lending l) (lent l).lent _ (headed (goal.at.shape_of-path c).In-Bytes) (request (goal.at.shape_of-path c).In-Request) (sym (read (goal.at.shape_of-path c).In-Request).answer) (chosen (goal.at.shape_of-path c).In-Found) (mount (goal.at.shape_of-path c).In-Found).wins b (sized (goal.at.shape_of-path c).In-Bytes-b).is)
-    (answered-by f c.args.out.now _ _ (rw (is_block (goal.at.shape_of-path c).In-Bytes-b) at c.write_request-w.ensures))
-
--- the pool's place and the bytes used that the answer names
-told :
-    (c : After-answered)
-    → (
-    let m = chosen (goal.at.shape_of-path c).In-Found in
-    let u = headLength (head₃ (c)) + size (goal.at.shape_of-path c).In-Bytes-b in
-    c.answered.result ≡ stepping_by m.pool_start m.pool_length u c.write_request-w.result)
-told c = c.answered.ensures
-
 pub returns-in_default : goal.returns-in_default
 returns-in_default c =
     let w = lent-told.refuses _ _ _ _ (rw c.in_default.is at c.check-c.ensures) in
-    rw (c.number.ensures, c.in_default.is) (refuses c _ (step-lent _ _ _ _ _ _ w))
+    rw (c.number.ensures, c.in_default.is) (refuses (goal.at.returns-in_default c).Start _ (step-lent _ _ _ _ _ _ w))
 
 pub returns-in_default-h : goal.returns-in_default-h
 returns-in_default-h c =
-    rw (c.number-in_default-h.ensures, c.in_default-h.is) (refuses c _ (step-head _ _ _ _ _ (lending (goal.at.returns-in_default-h c).In-Lent) (lent (goal.at.returns-in_default-h c).In-Lent).lent _ (sym c.requires.answer ∙ ap head_outcome c.in_default-h.is)))
+    let e = c.in_default-h.is in
+    let l = (goal.at.returns-in_default-h c).In-Lent in
+    rw (c.number-in_default-h.ensures, e)
+    (refuses (goal.at.returns-in_default-h c).Start _ (step-head _ _ _ _ _ (lending l) (lent l).lent _ (sym c.requires.answer ∙ ap head_outcome e)))
 
 pub slice_bounds-head-count : goal.slice_bounds-head-count
 slice_bounds-head-count c = omega (arith, (within c).last)
@@ -232,8 +194,12 @@ read_request-q-requires c = (c.kinds-table.ensures, search rules, simp length-ta
 
 pub returns-in_default-q : goal.returns-in_default-q
 returns-in_default-q c =
-    let w = requests-told.refuses _ _ _ _ _ _ (rw c.in_default-q.is at c.read_request-q.ensures) in
-    rw (c.number-in_default-q.ensures, c.in_default-q.is) (refuses c _ (step-read _ _ _ _ _ (lending (goal.at.returns-in_default-q c).In-Lent) (lent (goal.at.returns-in_default-q c).In-Lent).lent _ (headed (goal.at.returns-in_default-q c).In-Bytes) _ (sym w)))
+    let e = c.in_default-q.is in
+    let h = (goal.at.returns-in_default-q c).In-Bytes in
+    let l = (goal.at.returns-in_default-q c).In-Lent in
+    let w = requests-told.refuses _ _ _ _ _ _ (rw e at c.read_request-q.ensures) in
+    rw (c.number-in_default-q.ensures, e)
+    (refuses (goal.at.returns-in_default-q c).Start _ (step-read _ _ _ _ _ (lending l) (lent l).lent _ (headed h) _ (sym w)))
 
 pub slice_bounds-search-end : goal.slice_bounds-search-end
 slice_bounds-search-end c = (read c).line.decoded_inside
@@ -242,42 +208,61 @@ pub slice_bounds-search-end-2 : goal.slice_bounds-search-end-2
 slice_bounds-search-end-2 c = sym (length-take-le _ _ (read c).line.decoded_inside)
 
 pub search-m-requires : goal.search-m-requires
-search-m-requires c =
-    ap is_good (lent (c)).mounts_are
+search-m-requires c = ap is_good (lent (lent₂ (head₃ c))).mounts_are
 
 pub returns-in_default-m : goal.returns-in_default-m
 returns-in_default-m c =
-    let l = c in
-    let w = lost _ _ (lent l).ms (lent l).mounts_are _ (ap mount_outcome (sym c.in_default-m.is) ∙ c.search-m.ensures) in
-    rw (c.number-in_default-m.ensures, c.in_default-m.is)
-    (refuses c _ (step-mount _ _ _ _ _ (lending l) (lent l).lent _ (headed (goal.at.returns-in_default-m c).In-Bytes) (request (goal.at.returns-in_default-m c).In-Request) (sym (read (goal.at.returns-in_default-m c).In-Request).answer) _ w))
+    let e = c.in_default-m.is in
+    let r = (goal.at.returns-in_default-m c).In-Request in
+    let l = lent₂ (head₃ r) in
+    let w = lost _ _ (lent l).ms (lent l).mounts_are _ (ap mount_outcome (sym e) ∙ c.search-m.ensures) in
+    rw (c.number-in_default-m.ensures, e)
+    (refuses (goal.at.returns-in_default-m c).Start _
+    (step-mount _ _ _ _ _ (lending l) (lent l).lent _ (headed (head₃ r)) (request r) (sym (read r).answer) _ w))
 
 pub slice_bounds-after-count : goal.slice_bounds-after-count
-slice_bounds-after-count c = omega (arith, (within (c)).inside)
+slice_bounds-after-count c = omega (arith, (within (head₃ (read₄ c))).inside)
 
 pub slice_bounds-after-start : goal.slice_bounds-after-start
-slice_bounds-after-start c = omega (arith, (within (c)).inside)
+slice_bounds-after-start c = omega (arith, (within (head₃ (read₄ c))).inside)
 
 pub returns-in_default-b : goal.returns-in_default-b
 returns-in_default-b c =
-    let l = c in
-    let w = body_refused _ _ (http (goal.at.returns-in_default-b c).Start) (headLength (goal.at.returns-in_default-b c).In-Bytes) _ (ap body_outcome (sym c.in_default-b.is) ∙ c.read_body-b.ensures) in
-    rw (c.number-in_default-b.ensures, c.in_default-b.is)
-    (refuses c _ (step-body _ _ _ _ _ (lending l) (lent l).lent _ (headed (goal.at.returns-in_default-b c).In-Bytes) (request (goal.at.returns-in_default-b c).In-Request) (sym (read (goal.at.returns-in_default-b c).In-Request).answer) _ (mount (goal.at.returns-in_default-b c).In-Found).wins _ w))
+    let e = c.in_default-b.is in
+    let m = (goal.at.returns-in_default-b c).In-Found in
+    let r = read₄ m in
+    let l = lent₂ (head₃ r) in
+    let w = body_refused _ _ c.args.http.now c.in-Bytes.head_len _ (ap body_outcome (sym e) ∙ c.read_body-b.ensures) in
+    rw (c.number-in_default-b.ensures, e)
+    (refuses (goal.at.returns-in_default-b c).Start _
+    (step-body _ _ _ _ _ (lending l) (lent l).lent _ (headed (head₃ r)) (request r) (sym (read r).answer) _ (mount m).wins _ w))
 
 pub slice_bounds-write_request-end-2 : goal.slice_bounds-write_request-end-2
 slice_bounds-write_request-end-2 c =
-    simp (length-take, length-drop) (omega (arith, simp (length-take, length-drop) at (sized (goal.at.slice_bounds-write_request-end-2 c).In-Bytes-b).inside, (within (head₃ (c))).inside))
+    simp (length-take, length-drop)
+    (omega (arith, simp (length-take, length-drop) at (sized c).inside, (within (head₃ (read₄ (mount₅ c)))).inside))
 
 pub write_request-w-requires : goal.write_request-w-requires
-write_request-w-requires c = fits (goal.at.write_request-w-requires c).In-Bytes-b
+write_request-w-requires c = fits (goal.at.write_request-w-requires c).After-places-3-1
 
 pub overflow_add-head_len : goal.overflow_add-head_len
 overflow_add-head_len c =
-    omega (arith, (within (head₃ (c))).limit, (sized (goal.at.overflow_add-head_len c).In-Bytes-b).limit, (mount (goal.at.overflow_add-head_len c).In-Found).small)
+    let k = (goal.at.overflow_add-head_len c).After-places-3-1 in
+    omega (arith, (within (head₃ (read₄ (mount₅ k)))).limit, (sized k).limit, (mount (mount₅ k)).small)
 
 pub shape_of-path : goal.shape_of-path
 shape_of-path c = same-path (goal.at.shape_of-path c).In-Request
 
+-- the answer and the output, by what the writer says
 pub returns : goal.returns
-returns c = rw (told c) (made c)
+returns c =
+    let k = (goal.at.returns c).After-places-3-1 in
+    let m = mount₅ k in
+    let r = read₄ m in
+    let l = lent₂ (head₃ r) in
+    let b : Body = record { body = body k; used = c.in-Bytes-b.len } in
+    let f : Forward = forward_by (chosen m) (netstring (printing k) ++ body k) (c.in-Bytes.head_len + c.in-Bytes-b.len) in
+    rw
+    (c.answered.ensures,
+    step-written _ _ _ _ _ (lending l) (lent l).lent _ (headed (head₃ r)) (request r) (sym (read r).answer) (chosen m) (mount m).wins b (sized k).is)
+    (answered-by f c.args.out.now _ _ (rw (is_block k) at c.write_request-w.ensures))
