@@ -141,11 +141,9 @@ fn too_many(stdout: Stdout) {
 // A request byte by byte, and the answer.
 fn show_bytes(stdout: Stdout, request: &[u8], block: &mut [u8]) {
     let mut s = Socket::fresh();
-    let mut i: usize = 0;
-    while i < request.len() {
-        let t = s.feed(&request[i..i + 1], block);
+    for b in request {
+        let t = s.feed(&[*b], block);
         s = t.state;
-        i += 1;
     }
     show(stdout, s, b"", block);
 }

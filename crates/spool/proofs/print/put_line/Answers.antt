@@ -1,16 +1,11 @@
 -- `spool::print::put_line` meets its contract.
 -- Assumes nothing.
-use Rattle.std.proofs.Common.{arith, ◌≤◌, length}
-use Rattle.octets.specs.Decimal.{decimal}
+use Rattle.std.proofs.Common.{arith}
 use Rattle.octets.proofs.Decimals.{twenty-digits}
 use Rattle.spool.proofs.print.put_line.Goals as goal
 
--- a number of 64 bits has at most 20 digits
-short : (c : goal.at.write-end-requires) → length (decimal c.args.n) ≤ 20
-short c = twenty-digits c.args.n (omega arith)
-
 pub write-end-requires : goal.write-end-requires
-write-end-requires c = omega (arith, short c)
+write-end-requires c = omega (arith, twenty-digits c.args.n (omega arith))
 
 pub bounds-text-end : goal.bounds-text-end
 bounds-text-end c = omega (arith, twenty-digits c.args.n (omega arith), c.write-end.ensures.ends)
