@@ -17,7 +17,7 @@ AUDIT = ROOT / 'docs/AUDIT.md'
 BEGIN, END = '<!-- reading: by docs/reading.py -->\n', '<!-- reading ends -->\n'
 
 # the calls whose contracts are read: those that C calls, and two lookups that hand back a part, which a C call can't
-EXPORTED = r'#\[no_mangle\]\npub extern "C" fn (\w+)'
+EXPORTED = r'#\[unsafe\(no_mangle\)\]\npub extern "C" fn (\w+)'
 CALLS = [('capi/src/*.rt', EXPORTED), ('headers/src/lookup.rt', r'pub fn (value)\b'), ('headers/src/setting.rt', r'pub fn (setting)\b')]
 
 # the claims that docs/AUDIT.md cites, by crate
@@ -32,7 +32,7 @@ CLAIMS = {
     'capi': ['ZeroIsGiven', 'ZeroIsEnd', 'RefusalKeeps'],
 }
 
-USE = re.compile(r'(?:ghost )?use Rattle·(\w+)(?:·specs)?\.specs\.(\w+)(?:\.\{(.*?)\}| as (\w+))', re.S)
+USE = re.compile(r'(?:ghost )?use Rattle\.(\w+)\.specs\.(\w+)(?:\.\{(.*?)\}| as (\w+))', re.S)
 # a field of a record is `pub`, too, but indented and with no other word before it
 DEFINES = re.compile(r'^(?:(?:  )?(?:(?:abbrev |unfoldable )+pub |pub (?:data|record) )|pub (?!data |record ))([^\s:({]+)', re.M)
 CONSTRUCTOR = re.compile(r'^ +([^\s:({]+)(?: [^\s:]+)* :', re.M)
@@ -114,6 +114,9 @@ def meanings(files, file, word):
     if rest and prefix in file.modules:
         target = files.get(file.modules[prefix])
         return [(target, rest)] if target and rest in target.own else []
+    # a field of what a definition gives
+    if rest and word not in file.own and word not in file.lent:
+        word = prefix
     if word in file.own:
         return [(file, word)]
     if word in file.lent:
@@ -180,7 +183,7 @@ def faults():
         text = (ROOT / f'crates/{crate}/proofs/Claims.antt').read_text()
         found += [f'{crate}: {name} has no proof in proofs/Claims.antt' for name in names if not re.search(rf'^pub \S+ : {name}$', text, re.M)]
     for path in [*ROOT.glob('crates/*/specs/*.antt'), *ROOT.glob('crates/*/src/*.rt')]:
-        if re.search(r'^(?:ghost )?use Rattle·\w+(?:·proofs)?\.proofs\.', path.read_text(), re.M):
+        if re.search(r'^(?:ghost )?use Rattle\.(?!std\.)\w+\.proofs\.', path.read_text(), re.M):
             found.append(f'{path.relative_to(ROOT)} cites a proof')
     return found
 

@@ -175,14 +175,14 @@ still-faulty s t n e q = ap (λ (o : Outcome Places). then o (λ p. gives p.used
 
 -- how many turns are enough
 abbrev enough : Bool → List ℕ → List (List ℕ) → ℕ
-enough step_at_end held reads = cond step_at_end 0 1 + length held + length (joined reads) + length reads
+enough is_end held reads = cond is_end 0 1 + length held + length (joined reads) + length reads
 
 module _ (room : ℕ) (room-some : 0 < room) where
   -- the turns from some held bytes on give the answer over them and what is still to be read
   abbrev Through : ℕ → Type 0
   Through k =
-      (step_at_end : Bool) (held : List ℕ) (reads : List (List ℕ)) (n : ℕ) → (step_at_end ≡ true → reads ≡ []) → enough step_at_end held reads < k
-      → length (held ++ joined reads) ≤ n → turns_in k room step_at_end held reads ≡ requests_of (held ++ joined reads) n
+      (is_end : Bool) (held : List ℕ) (reads : List (List ℕ)) (n : ℕ) → (is_end ≡ true → reads ≡ []) → enough is_end held reads < k
+      → length (held ++ joined reads) ≤ n → turns_in k room is_end held reads ≡ requests_of (held ++ joined reads) n
 
   module _ (k : ℕ) (ih : Through k) (held : List ℕ) where
     -- more input
@@ -199,28 +199,28 @@ module _ (room : ℕ) (room-some : 0 < room) where
 
     module _ (reads : List (List ℕ)) (n : ℕ) (s : List ℕ) (m : ℕ) (shorter : m ≡ 0 → length s < length held) (l : length s ≤ length held) where
       goes_on :
-          (step_at_end : Bool) (e : Ending) → Ends s m e → (step_at_end ≡ true → reads ≡ []) → enough step_at_end held reads < suc k → length (s ++ joined reads) ≤ n
-          → after_turn (turns_in k room) step_at_end s reads (next_of step_at_end e) ≡ requests_of (s ++ joined reads) n
+          (is_end : Bool) (e : Ending) → Ends s m e → (is_end ≡ true → reads ≡ []) → enough is_end held reads < suc k → length (s ++ joined reads) ≤ n
+          → after_turn (turns_in k room) is_end s reads (next_of is_end e) ≡ requests_of (s ++ joined reads) n
       unfolding joined
       goes_on true whole (at_last z) none en b = rw (none refl, z) (sym (at_end used_of frames n))
       goes_on false whole (at_last z) none en b = reads_more s reads n l en b
       goes_on true cut (cut_short h u) none en b = rw (none refl, append-nil s) (sym (at_cut used_of frames s h n u))
       goes_on false cut (cut_short h u) none en b = reads_more s reads n l en b
-      goes_on step_at_end (refused_by i) (faulty h u q) none en b =
+      goes_on is_end (refused_by i) (faulty h u q) none en b =
           sym (at-refused used_of frames (s ++ joined reads) (simp length-append (omega arith)) n i (still-faulty s (joined reads) i u q) q)
       goes_on true full (no_room z) none en b = ih true s reads n none (omega (arith, shorter z)) b
       goes_on false full (no_room z) none en b = ih false s reads n none (omega (arith, shorter z)) b
 
   through : (k : ℕ) → Through k
   unfolding turns_in
-  through zero step_at_end held reads n none e b = absurd (omega arith)
-  through (suc k) step_at_end held reads n none e b =
+  through zero is_end held reads n none e b = absurd (omega arith)
+  through (suc k) is_end held reads n none e b =
       let m : ℕ = room - length (found held room) in
       let w : length (left held room ++ joined reads) ≤ length (held ++ joined reads) = simp length-append (omega (arith, left-length held room)) in
       let shorter : room - length (found held room) ≡ 0 → length (left held room) < length held =
       λ z. omega (arith, left-length held room, took held room (omega (arith, z))) in
       ap (behind (found held room))
-      (goes_on k (through k) held reads n (left held room) (room - length (found held room)) shorter (omega (arith, left-length held room)) step_at_end (requests_of held room).ending
+      (goes_on k (through k) held reads n (left held room) (room - length (found held room)) shorter (omega (arith, left-length held room)) is_end (requests_of held room).ending
       (ends (left held room) (room - length (found held room)) (requests_of held room).ending (left-ends held room)) none e (omega arith))
       ∙ sym (found_first held room (joined reads) n n b (omega arith))
 

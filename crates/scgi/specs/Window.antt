@@ -10,10 +10,10 @@ use Rattle.scgi.specs.declared.window.Turn.{Turn}
 
 -- what comes after an ending, where the flag says that the input has no more: an ending of the spool, or a window that goes on
 abbrev pub next_of : Bool → Ending → Next
-next_of step_at_end whole = cond step_at_end Whole More
-next_of step_at_end cut = cond step_at_end Cut More
-next_of step_at_end (refused_by n) = Refused n
-next_of step_at_end full = Again
+next_of is_end whole = cond is_end Whole More
+next_of is_end cut = cond is_end Cut More
+next_of is_end (refused_by n) = Refused n
+next_of is_end full = Again
 
 -- the most bytes of a request: five digits, a colon, 16,384 bytes of block, a comma, 1,048,576 bytes of body
 abbrev pub largest : ℕ
@@ -21,10 +21,10 @@ largest = 1064967
 
 -- a turn over the held bytes is the spool call over them; where it asks for more input, fewer bytes than the largest request has are left over,
 -- so a window of that size has room for a byte more
-pub record TurnDone (held : List ℕ) (step_at_end : Bool) (before after : List ℕ) (r : Turn) : Type 0 where
+pub record TurnDone (held : List ℕ) (is_end : Bool) (before after : List ℕ) (r : Turn) : Type 0 where
   pub count : r.count ≡ length (requests_of held (length before)).lengths
   pub taken : r.taken ≡ total (requests_of held (length before)).lengths
-  pub next : r.next ≡ next_of step_at_end (requests_of held (length before)).ending
+  pub next : r.next ≡ next_of is_end (requests_of held (length before)).ending
   pub list : after ≡ over before 0 (requests_of held (length before)).lengths
   pub few : r.count ≤ length before
   pub inside : r.taken ≤ length held
@@ -42,20 +42,20 @@ read_more turns left (r ∷ reads) = turns false (left ++ r) reads
 
 -- what is done after a turn
 abbrev pub after_turn : Turns → Bool → List ℕ → List (List ℕ) → Next → Spool
-after_turn turns step_at_end left reads More = read_more turns left reads
-after_turn turns step_at_end left reads Again = turns step_at_end left reads
-after_turn turns step_at_end left reads Whole = ended whole
-after_turn turns step_at_end left reads Cut = ended cut
-after_turn turns step_at_end left reads (Refused n) = ended (refused_by n)
+after_turn turns is_end left reads More = read_more turns left reads
+after_turn turns is_end left reads Again = turns is_end left reads
+after_turn turns is_end left reads Whole = ended whole
+after_turn turns is_end left reads Cut = ended cut
+after_turn turns is_end left reads (Refused n) = ended (refused_by n)
 
 -- k turns at most, each with an empty list that has room for so many lengths: a turn's lengths stand before those of the turns after it, which
 -- go on with the bytes that it did not take
 unfoldable pub turns_in : ℕ → ℕ → Turns
-turns_in zero room step_at_end held reads = ended full
-turns_in (suc k) room step_at_end held reads =
+turns_in zero room is_end held reads = ended full
+turns_in (suc k) room is_end held reads =
     behind (requests_of held room).lengths
-    (after_turn (turns_in k room) step_at_end (drop (total (requests_of held room).lengths) held) reads
-    (next_of step_at_end (requests_of held room).ending))
+    (after_turn (turns_in k room) is_end (drop (total (requests_of held room).lengths) held) reads
+    (next_of is_end (requests_of held room).ending))
 
 -- nothing is held before the first turn
 abbrev pub through_window : ℕ → ℕ → List (List ℕ) → Spool

@@ -1,4 +1,3 @@
-use Prim.Native.Nat.{◌-◌}
 use Rattle.octets.proofs.Chunks.{same_start, same_more, same_end}
 use borrow.Author.Rules.{rules}
 use native.Mathlib.Omega.{arith}

@@ -262,7 +262,8 @@ returns c =
     let l = lent₂ (head₃ r) in
     let b : Body = record { body = body k; used = c.in-Bytes-b.len } in
     let f : Forward = forward_by (chosen m) (netstring (printing k) ++ body k) (c.in-Bytes.head_len + c.in-Bytes-b.len) in
-    rw
-    (c.answered.ensures,
-    step-written _ _ _ _ _ (lending l) (lent l).lent _ (headed (head₃ r)) (request r) (sym (read r).answer) (chosen m) (mount m).wins b (sized k).is)
+    rw (
+      c.answered.ensures,
+      step-written _ _ _ _ _ (lending l) (lent l).lent _ (headed (head₃ r)) (request r) (sym (read r).answer) (chosen m) (mount m).wins b (sized k).is,
+    )
     (answered-by f c.args.out.now _ _ (rw (is_block k) at c.write_request-w.ensures))

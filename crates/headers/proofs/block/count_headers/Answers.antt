@@ -1,5 +1,5 @@
 use mathlib.Core.Path.{sym, ap, ◌∙◌}
-use Prim.Native.Nat.{◌+◌, ◌-◌}
+use Prim.Native.Nat.{◌+◌}
 use native.Mathlib.Nat.{zero-add, add-zero}
 use native.Mathlib.Omega.{arith}
 use lib.ListN.{length}
@@ -37,12 +37,11 @@ pub loop-i-smaller : goal.loop-i-smaller
 loop-i-smaller c = omega (arith, (found c).order)
 
 pub loop-i-preserved : goal.loop-i-preserved
-loop-i-preserved c =
-    (
-      omega (arith, (found c).order),
-      omega (arith, (found c).order),
-      c.loop-i.invariant.2 ∙ past-header _ _ _ _ _ (found c) ∙ then_same (parsed _) _ _ (λ hs. ap gives (omega arith)),
-    )
+loop-i-preserved c = (
+  omega (arith, (found c).order),
+  omega (arith, (found c).order),
+  c.loop-i.invariant.2 ∙ past-header _ _ _ _ _ (found c) ∙ then_same (parsed _) _ _ (λ hs. ap gives (omega arith)),
+)
 
 pub returns : goal.returns
 returns c =

@@ -33,11 +33,10 @@ pub loop-k-smaller : goal.loop-k-smaller
 loop-k-smaller c = omega arith
 
 pub loop-k-preserved : goal.loop-k-preserved
-loop-k-preserved c =
-    (
-      omega arith,
-      c.loop-k.invariant.1 ∙ ap gives (differ-told _ _ _ _ c.loop-k-test.true (again (goal.at.loop-k-preserved c).After-repeated ∙ c.if-repeated.false)),
-    )
+loop-k-preserved c = (
+  omega arith,
+  c.loop-k.invariant.1 ∙ ap gives (differ-told _ _ _ _ c.loop-k-test.true (again (goal.at.loop-k-preserved c).After-repeated ∙ c.if-repeated.false)),
+)
 
 pub returns : goal.returns
 returns c = c.loop-k.invariant.1 ∙ ap gives (differ-end _ _ _ _ c.loop-k-test.false)

@@ -1,5 +1,4 @@
 use mathlib.Core.Path.{refl, sym, ◌∙◌}
-use Prim.Native.Nat.{◌-◌}
 use Rattle.http_head.proofs.Heads.{end_none, end-here, one_on, four-on, pass-then}
 use native.Mathlib.Omega.{arith}
 use Rattle.http_head.proofs.head.first_end.Goals as goal

@@ -1,4 +1,4 @@
-use Prim.Native.Nat.{◌+◌, ◌-◌}
+use Prim.Native.Nat.{◌+◌}
 use Rattle.http_head.proofs.Heads.{pass-none, pass-then, pass-chunks}
 use native.Mathlib.Omega.{arith}
 use Rattle.http_head.proofs.head.leap.Goals as goal

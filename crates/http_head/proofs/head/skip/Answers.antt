@@ -1,5 +1,4 @@
 use mathlib.Core.Path.{refl}
-use Prim.Native.Nat.{◌-◌}
 use Rattle.http_head.proofs.Heads.{pass-four, pass-eight, pass-twelve, pass-sixteen}
 use borrow.Author.Rules.{rules}
 use native.Mathlib.Omega.{arith}

@@ -1,5 +1,5 @@
 use mathlib.Core.Path.{◌≡◌}
-use Prim.Native.Nat.{◌+◌, ◌-◌}
+use Prim.Native.Nat.{◌+◌}
 use Rattle.http_head.proofs.Heads.{pass-none, turn_on}
 use borrow.Author.Rules.{rules}
 use native.Mathlib.Omega.{arith}

@@ -1,5 +1,5 @@
 use mathlib.Core.Path.{refl, sym, ◌∙◌}
-use Prim.Native.Nat.{◌+◌, ◌-◌}
+use Prim.Native.Nat.{◌+◌}
 use Rattle.octets.specs.Scan.{other}
 use Rattle.octets.proofs.Scans.{run-within}
 use Rattle.http_head.proofs.LineCuts.{line-stop, line-more, line-none, line_on}

@@ -22,8 +22,7 @@ slice_bounds-search-end t c =
 
 pub search-requires : goal.search-requires
 search-requires t c =
-    let k = c.in-At-s.k in
-    (
+    let k = c.in-At-s.k in (
       omega (arith, length-take k c.args.path.now, front-shorter c.args.path.now k (sym c.last_slash-s.ensures ∙ ap (slash_part _) c.in-At-s.is), c.decreases),
       c.requires,
     )

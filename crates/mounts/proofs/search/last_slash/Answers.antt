@@ -19,11 +19,10 @@ pub loop-n-smaller : goal.loop-n-smaller
 loop-n-smaller c = omega arith
 
 pub loop-n-preserved : goal.loop-n-preserved
-loop-n-preserved c =
-    (
-      omega arith,
-      sym (no_slash c.args.path.now c.loop-n.n c.loop-n-test.true c.loop-n.invariant.0 c.if-path-n-eq47.false) ∙ c.loop-n.invariant.1,
-    )
+loop-n-preserved c = (
+  omega arith,
+  sym (no_slash c.args.path.now c.loop-n.n c.loop-n-test.true c.loop-n.invariant.0 c.if-path-n-eq47.false) ∙ c.loop-n.invariant.1,
+)
 
 pub returns : goal.returns
 unfolding shortened

@@ -1,5 +1,4 @@
 use mathlib.Core.Path.{sym, ◌∙◌}
-use mathlib.Core.Bool.{true}
 use lib.ListN.{length}
 use Rattle.octets.proofs.Compares.{byte-differs, same-behind, byte-same, all_same}
 use Rattle.octets.specs.Compare.{lower_of}

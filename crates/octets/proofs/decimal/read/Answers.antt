@@ -1,5 +1,4 @@
 use mathlib.Core.Path.{sym, ◌∙◌}
-use Prim.Native.Nat.{◌-◌}
 use native.Mathlib.Omega.{arith}
 use borrow.Author.Rules.{rules}
 use Rattle.octets.proofs.Decimals.{ten_to, number-empty, number-long, number-some}
@@ -40,13 +39,12 @@ pub loop-i-smaller : goal.loop-i-smaller
 loop-i-smaller c = omega arith
 
 pub loop-i-preserved : goal.loop-i-preserved
-loop-i-preserved c =
-    (
-      omega arith,
-      c.loop-i.invariant.1,
-      ten-more _ _ _ c.loop-i.invariant.2 (omega arith),
-      c.loop-i.invariant.3 ∙ digit-more _ _ _ c.loop-i-test.true c.if-b-lt48.false c.if-b-gt57.false,
-    )
+loop-i-preserved c = (
+  omega arith,
+  c.loop-i.invariant.1,
+  ten-more _ _ _ c.loop-i.invariant.2 (omega arith),
+  c.loop-i.invariant.3 ∙ digit-more _ _ _ c.loop-i-test.true c.if-b-lt48.false c.if-b-gt57.false,
+)
 
 pub returns : goal.returns
 returns c = sym (c.loop-i.invariant.3 ∙ number-end _ _ _ c.loop-i-test.false)

@@ -1,5 +1,4 @@
 use mathlib.Core.Path.{refl, sym, ◌∙◌}
-use Prim.Native.Nat.{◌-◌}
 use native.Mathlib.Omega.{arith}
 use Rattle.octets.specs.Kinds.{is_blank}
 use Rattle.octets.proofs.Scans.{run-stop, run_more, run_none}

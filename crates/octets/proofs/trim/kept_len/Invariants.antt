@@ -2,7 +2,6 @@ use mathlib.Core.Path.{◌≡◌}
 use Prim.Native.Nat.{◌+◌, ◌≤◌}
 use lib.ListN.{length, take, drop}
 use Rattle.octets.specs.Trim.{kept}
-use Rattle.octets.proofs.Lists.{from}
 use Rattle.octets.proofs.trim.kept_len.Given as goal
 
 abbrev pub invariant-loop-n : goal.invariant-loop-n

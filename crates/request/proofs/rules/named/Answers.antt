@@ -1,4 +1,3 @@
-use Prim.Native.Nat.{◌-◌}
 use Rattle.request.proofs.NamedFields.{found-few, found-next}
 use Rattle.request.specs.Rules.{with_field, found_of}
 use borrow.Author.Rules.{rules}
@@ -11,7 +10,7 @@ unfolding found_of
 loop-k-init c = (search rules, refl)
 
 pub with_field-seen-requires : goal.with_field-seen-requires
-with_field-seen-requires c = 
+with_field-seen-requires c =
     (omega (arith, c.requires.0), rw c.loop-k.invariant.1 (found-few _ _ _ _), c.requires.2 _ c.loop-k-test.true)
 
 pub loop-k-smaller : goal.loop-k-smaller

@@ -1,5 +1,4 @@
 use mathlib.Core.Path.{refl, sym, ◌∙◌}
-use Prim.Native.Nat.{◌-◌}
 use Rattle.octets.proofs.Scans.{all-stop, all_more, all_none}
 use Rattle.response.specs.Location.{is_visible}
 use borrow.Author.Rules.{rules}
@@ -19,12 +18,11 @@ pub loop-i-smaller : goal.loop-i-smaller
 loop-i-smaller c = omega arith
 
 pub loop-i-preserved : goal.loop-i-preserved
-loop-i-preserved c =
-    (
-      omega arith,
-      c.loop-i.invariant.1
-          ∙ all_more is_visible _ _ c.loop-i-test.true (sym c.is_visible.ensures ∙ c.if-not-is_visible.false),
-    )
+loop-i-preserved c = (
+  omega arith,
+  c.loop-i.invariant.1
+      ∙ all_more is_visible _ _ c.loop-i-test.true (sym c.is_visible.ensures ∙ c.if-not-is_visible.false),
+)
 
 pub returns : goal.returns
 returns c = sym (c.loop-i.invariant.1 ∙ all_none is_visible _ _ c.loop-i-test.false)

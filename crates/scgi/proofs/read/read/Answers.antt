@@ -31,7 +31,7 @@ body :
     → (
     check_block (take c.in-Value.len (drop c.in-Value.next c.args.s.now)) ≡ gives c.in-Body.n)
 body c = (let it : (
-    check_block (take c.in-Value.len (drop c.in-Value.next c.args.s.now)) ≡ checked_outcome c.check_block-c.result) = 
+    check_block (take c.in-Value.len (drop c.in-Value.next c.args.s.now)) ≡ checked_outcome c.check_block-c.result) =
     sym (c.check_block-c.ensures ∙ ap check_block (part c.args.s.now c.in-Value.next c.in-Value.len)) in it) ∙ ap checked_outcome c.in-Body.is
 
 pub returns-in_default : goal.returns-in_default

@@ -1,5 +1,5 @@
 use mathlib.Core.Path.{◌≡◌, refl, sym, ap, ◌∙◌}
-use Prim.Native.Nat.{◌+◌, ◌-◌, ◌≤◌}
+use Prim.Native.Nat.{◌+◌, ◌≤◌}
 use native.Mathlib.Omega.{arith}
 use lib.ListN.{length, drop, length-set}
 use borrow.Author.Rules.{rules}
@@ -56,12 +56,11 @@ pub loop-i-smaller : goal.loop-i-smaller
 loop-i-smaller c = omega (arith, ends (goal.at.loop-i-smaller c).In-Bytes, some (goal.at.loop-i-smaller c).In-Bytes)
 
 pub loop-i-preserved : goal.loop-i-preserved
-loop-i-preserved c =
-    (
-      omega (arith, ends (goal.at.loop-i-preserved c).In-Bytes),
-      simp length-set c.loop-i.invariant.1,
-      stored_one c.loop-i.invariant.2 c.loop-i-test.true _ (reads (goal.at.loop-i-preserved c).In-Bytes) (omega arith),
-    )
+loop-i-preserved c = (
+  omega (arith, ends (goal.at.loop-i-preserved c).In-Bytes),
+  simp length-set c.loop-i.invariant.1,
+  stored_one c.loop-i.invariant.2 c.loop-i-test.true _ (reads (goal.at.loop-i-preserved c).In-Bytes) (omega arith),
+)
 
 pub returns : goal.returns
 returns c = none_left c.loop-i.invariant.2 c.loop-i-test.false

@@ -1,5 +1,4 @@
 use mathlib.Core.Path.{refl, sym, ◌∙◌}
-use Prim.Native.Nat.{◌-◌}
 use Rattle.targets.proofs.Escapes.{escapes-next, escapes-none}
 use borrow.Author.Rules.{rules}
 use native.Mathlib.Omega.{arith}
@@ -19,13 +18,12 @@ pub loop-i-smaller : goal.loop-i-smaller
 loop-i-smaller c = omega arith
 
 pub loop-i-preserved : goal.loop-i-preserved
-loop-i-preserved c =
-    (
-      omega arith,
-      c.loop-i.invariant.1
-          ∙ escapes-next _ _ c.loop-i-test.true
-          ∙ rw (sym c.right_at.ensures ∙ c.if-not-right_at.false),
-    )
+loop-i-preserved c = (
+  omega arith,
+  c.loop-i.invariant.1
+      ∙ escapes-next _ _ c.loop-i-test.true
+      ∙ rw (sym c.right_at.ensures ∙ c.if-not-right_at.false),
+)
 
 pub returns : goal.returns
 returns c = sym (c.loop-i.invariant.1 ∙ escapes-none _ _ c.loop-i-test.false)

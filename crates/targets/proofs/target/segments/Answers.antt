@@ -1,6 +1,5 @@
 use native.Mathlib.Omega.{arith}
 use mathlib.Core.Path.{sym, ◌∙◌}
-use Prim.Native.Nat.{◌-◌}
 use Rattle.octets.proofs.Scans.{run-within}
 use Rattle.octets.specs.Scan.{other}
 use Rattle.targets.proofs.Targets.{segments-start, segments-next, segments-end}

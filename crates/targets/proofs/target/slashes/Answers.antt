@@ -1,4 +1,3 @@
-use Prim.Native.Nat.{◌-◌}
 use Rattle.octets.proofs.Scans.{count_next, count_none, count-le}
 use borrow.Author.Rules.{rules}
 use native.Mathlib.Omega.{arith}

@@ -24,16 +24,23 @@ alone :
     variable_if a.head.now a.places.now a.n a.k ≡ variable_alone a.head.now a.places.now a.k)
 alone c =
     let differ : different (names_before c.args.head.now c.args.places.now c.args.n) ≡ true = not-false _ (sym c.requires.1 ∙ c.if-not-repeat.true) in
-    rw ((let it : (let a = c.args in
-    is_in (low_name a.head.now a.places.now a.k) not_passed ≡ c.not_passed.result) = sym (c.not_passed.ensures ∙ rw c.field_name-name.ensures.0) in it) ∙ c.if-not_passed.false, new-name _ _ _ differ _ c.requires.0.0, value-alone _ _ _ differ _ c.requires.0.0)
+    rw (
+      (let it : (let a = c.args in
+          is_in (low_name a.head.now a.places.now a.k) not_passed ≡ c.not_passed.result) = sym (c.not_passed.ensures ∙ rw c.field_name-name.ensures.0) in it) ∙ c.if-not_passed.false,
+      new-name _ _ _ differ _ c.requires.0.0,
+      value-alone _ _ _ differ _ c.requires.0.0,
+    )
 
 -- where the name is not there before, it makes one
 first :
     (c : Else-seen_before)
     → (let a = c.args in
     variable_if a.head.now a.places.now a.n a.k ≡ variable_from a.head.now a.places.now a.n a.k)
-first c = rw ((let it : (let a = c.args in
-    is_in (low_name a.head.now a.places.now a.k) not_passed ≡ c.not_passed.result) = sym (c.not_passed.ensures ∙ rw c.field_name-name.ensures.0) in it) ∙ c.if-not_passed.false, sym c.seen_before.ensures ∙ c.if-seen_before.false)
+first c = rw (
+  (let it : (let a = c.args in
+      is_in (low_name a.head.now a.places.now a.k) not_passed ≡ c.not_passed.result) = sym (c.not_passed.ensures ∙ rw c.field_name-name.ensures.0) in it) ∙ c.if-not_passed.false,
+  sym c.seen_before.ensures ∙ c.if-seen_before.false,
+)
 
 pub field_name-name-requires : goal.field_name-name-requires
 field_name-name-requires c =

@@ -36,17 +36,17 @@ after-colon s run buffer d f z e came =
 ready : (c : Joined-self-eq-LENGTH) → Ready c.args.self c.if-self-eq-LENGTH.self c.if-self-eq-LENGTH.at c.args.run.now c.args.block.now
 ready c =
     elim c.if-self-eq-LENGTH.branch [
-      then-self-eq-LENGTH+in-Read+else-not-colon w ↦
-        rw (w.self-is, w.at-is, w.begun-self.ensures)
-        (after-colon c.args.self c.args.run.now c.args.block.now (record { count = w.in-Read.count; value = w.in-Read.value; colon = w.in-Read.colon })
-        c.requires.0 w.if-self-eq-LENGTH.true (sym w.read_digits-d.ensures ∙ ap digits_outcome w.in-Read.is) w.if-not-colon.false)
+      | then-self-eq-LENGTH+in-Read+else-not-colon w ↦
+          rw (w.self-is, w.at-is, w.begun-self.ensures)
+          (after-colon c.args.self c.args.run.now c.args.block.now (record { count = w.in-Read.count; value = w.in-Read.value; colon = w.in-Read.colon })
+          c.requires.0 w.if-self-eq-LENGTH.true (sym w.read_digits-d.ensures ∙ ap digits_outcome w.in-Read.is) w.if-not-colon.false)
       | else-self-eq-LENGTH w ↦
-        rw (w.self-is, w.at-is)
-        (record {
-          fits = c.requires.0;
-          within_run = omega arith;
-          is = block-at-once c.args.self c.args.run.now c.args.block.now w.if-self-eq-LENGTH.false;
-        })
+          rw (w.self-is, w.at-is)
+          (record {
+            fits = c.requires.0;
+            within_run = omega arith;
+            is = block-at-once c.args.self c.args.run.now c.args.block.now w.if-self-eq-LENGTH.false;
+          })
     ]
 
 pub returns-in_default : goal.returns-in_default
