@@ -9,9 +9,10 @@ mod print; // lengths, endings and complaints
 ghost use Rattle.std.specs.Prelude.{◌≡◌, ◌≤◌, ◌<◌, length};
 ghost use Rattle.scgi.specs.Window.{largest};
 
-use libc::STDIN_FILENO;
 use octets::copy::move_front;
 use scgi::window::{Next, advance};
+use std::env::{Env, FillError};
+use std::io::Read;
 
 // How the reading stands.
 #[derive(Clone, Copy)]
@@ -32,34 +33,37 @@ pub struct State {
 }
 
 // One read into the window, behind the held bytes: there is room, so that no byte means no more input.
-fn read_more(window: &mut [u8], held: usize) -> State
+fn read_more(rt: &impl Eprint, input: &mut impl Read, window: &mut [u8], held: usize) -> State
     requires { held < length window.old }
     ensures { result.held ≤ length window.old }
 {
-    let rest = &mut window[held..];
-    let got = libc::read(STDIN_FILENO, rest);
-    if got < 0 {
-        os::fail(b"spool: standard input can't be read");
-        return State {
-            held,
-            input: Input::Done,
-        };
-    }
-    if got == 0 {
-        return State {
+    match input.read(&mut window[held..]) {
+        Ok(0) => State {
             held,
             input: Input::Ended,
-        };
-    }
-    let n = io::count(got, rest);
-    State {
-        held: held + n,
-        input: Input::Going,
+        },
+        Ok(n) => State {
+            held: held + n,
+            input: Input::Going,
+        },
+        Err(e) => {
+            print::complain(rt, "standard input can't be read", e);
+            State {
+                held,
+                input: Input::Done,
+            }
+        }
     }
 }
 
 // One turn: what the held bytes give is printed, the rest moves to the front, and more is read where that is asked for.
-fn turn(window: &mut [u8], held: usize, ended: bool) -> State
+fn turn(
+    rt: &(impl Print + Eprint),
+    input: &mut impl Read,
+    window: &mut [u8],
+    held: usize,
+    ended: bool,
+) -> State
     requires { (held ≤ length window.old) × (largest ≤ length window.old) }
     ensures { result.held ≤ length window.old }
 {
@@ -67,25 +71,25 @@ fn turn(window: &mut [u8], held: usize, ended: bool) -> State
     let t = advance(&window[..held], ended, &mut lengths);
     let count = t.count;
     let taken = t.taken;
-    if !print::lengths(&lengths, count) {
+    if !print::lengths(rt, &lengths, count) {
         return done();
     }
     move_front(window, taken, held);
     let left = held - taken;
     let next = t.next;
     match next {
-        Next::More => read_more(window, left),
+        Next::More => read_more(rt, input, window, left),
         Next::Again => going(left, ended),
         Next::Whole => {
-            print::line(b"whole\n");
+            print::line(rt, b"whole\n");
             done()
         }
         Next::Cut => {
-            print::line(b"cut\n");
+            print::line(rt, b"cut\n");
             done()
         }
         Next::Refused(n) => {
-            print::refused(n);
+            print::refused(rt, n);
             done()
         }
     }
@@ -123,15 +127,13 @@ fn empty_window() -> [u8; 1114112]
 }
 
 // A proved loop has to end, and nothing says that the input does: the turns are counted down from a number that no run uses up.
-fn read_spool() {
+fn read_spool(rt: &(impl Print + Eprint), input: &mut impl Read) {
     let mut window = empty_window();
     let mut held: usize = 0;
     let mut ended = false;
-    let mut turns = u64::MAX;
-    while 0 < turns {
-        let s = turn(&mut window, held, ended);
-        let input = s.input;
-        match input {
+    for _ in 0..u64::MAX {
+        let s = turn(rt, input, &mut window, held, ended);
+        match s.input {
             Input::Done => return,
             Input::Ended => {
                 ended = true;
@@ -139,15 +141,19 @@ fn read_spool() {
             Input::Going => {}
         }
         held = s.held;
-        turns -= 1;
     }
 }
 
-fn main() {
-    // the program's own name is one
-    if 1 < os::arg_count() {
-        print::usage();
+// Whether there is an argument behind the program's own name.
+fn has_arguments(rt: &impl Env) -> bool {
+    let mut start = [0u8; 1];
+    !matches!(rt.arg(1, &mut start), Err(FillError::NotPresent))
+}
+
+fn main(rt: HostRuntime) {
+    if has_arguments(&rt) {
+        print::usage(&rt);
         return;
     }
-    read_spool();
+    read_spool(&rt, &mut rt.stdin());
 }

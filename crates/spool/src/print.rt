@@ -1,44 +1,48 @@
 // Lengths, endings and complaints. What is printed says whether it was written, and where it was not, the complaint is made here.
 ghost use Rattle.std.specs.Prelude.{◌+◌, ◌≤◌, length};
 
-use libc::{STDERR_FILENO, STDOUT_FILENO};
 use octets::copy::put;
 use octets::decimal;
+use std::io;
 
-pub fn line(text: &[u8]) -> bool {
-    if io::write_all(STDOUT_FILENO, text) {
-        return true;
-    }
-    os::fail(b"spool: standard output can't be written");
-    false
+// What failed and why, on standard error. There is nowhere to say that this could not be written.
+pub fn complain(rt: &impl Eprint, what: &str, why: io::Error) {
+    let _ = eprintln!(rt; "spool: {what}: {why}");
 }
 
-pub fn refused(n: u8) -> bool {
+pub fn line(rt: &(impl Print + Eprint), text: &[u8]) -> bool {
+    match rt.write_all(text) {
+        Ok(()) => true,
+        Err(e) => {
+            complain(rt, "standard output can't be written", e);
+            false
+        }
+    }
+}
+
+pub fn refused(rt: &(impl Print + Eprint), n: u8) -> bool {
     let mut text = [0u8; 29];
     let number = put(&mut text, 0, b"refused ");
     let end = put_line(&mut text, number, n as u64);
-    line(&text[..end])
+    line(rt, &text[..end])
 }
 
-pub fn usage() {
-    io::write_all(
-        STDERR_FILENO,
-        b"usage: spool <FILE\nSCGI requests end to end on standard input; the byte length of each, then whole, cut or refused N\n",
+pub fn usage(rt: &impl Eprint) {
+    let _ = eprintln!(rt;
+        "usage: spool <FILE\nSCGI requests end to end on standard input; the byte length of each, then whole, cut or refused N"
     );
 }
 
 // The first count lengths, a line each, by one write: 1,024 lines of at most 21 bytes.
-pub fn lengths(numbers: &[u64], count: usize) -> bool
+pub fn lengths(rt: &(impl Print + Eprint), numbers: &[u64], count: usize) -> bool
     requires { (count ≤ length numbers.now) × (count ≤ 1024) }
 {
     let mut text = [0u8; 21504];
     let mut at: usize = 0;
-    let mut i: usize = 0;
-    while i < count {
-        at = put_line(&mut text, at, numbers[i]);
-        i += 1;
+    for n in &numbers[..count] {
+        at = put_line(&mut text, at, *n);
     }
-    line(&text[..at])
+    line(rt, &text[..at])
 }
 
 // One number and a line end from a place on.
