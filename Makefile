@@ -10,8 +10,10 @@ CC ?= cc
 CFLAGS ?= -O2
 WARNINGS = -std=c89 -Wall -Wextra -Wpedantic -Werror
 ARCHIVE = target/staticlib/libcapi.a
-# what the archive is made from: all but the programs
-SOURCES := crates.txt $(shell find crates -path crates/spool -prune -o -path crates/vectors -prune -o \( -name '*.rt' -o -name '*.antt' \) -print)
+# what the archive is made from: all but the programs and what they print by, and nothing that rt made
+SOURCES := crates.txt $(shell find crates \( -path crates/spool -o -path 'crates/*vectors' -o -path crates/printing -o -name out \) -prune -o \
+	\( -name '*.rt' -o -name '*.antt' \) -print)
+SPOOL = target/bin/spool
 FRONT = target/example/front
 HEADERS = include/oyinkafubo.h include/oyinkafubo_text.h
 # the header is the one source of the version
@@ -24,12 +26,17 @@ all: archive spool example
 
 archive: $(ARCHIVE)
 
-$(ARCHIVE): $(SOURCES)
-	rt staticlib capi
-
 # rt proves and builds only what changed
+$(ARCHIVE): $(SOURCES)
+	cd crates/capi_c && rt lib
+	@mkdir -p $(dir $@)
+	cp crates/capi_c/out/libcapi_c.a $@
+
+# rt builds a program as it runs it: here on a spool of no bytes
 spool:
-	rt check spool
+	cd crates/spool && rt run </dev/null >/dev/null
+	@mkdir -p $(dir $(SPOOL))
+	cp crates/spool/out/spool $(SPOOL)
 
 example: $(FRONT)
 
@@ -41,13 +48,13 @@ run: example spool
 	$(FRONT)
 	@echo
 	@echo 'the same bytes as a spool: the length of each request, and how the spool ends'
-	$(FRONT) --raw | target/bin/spool
+	$(FRONT) --raw | $(SPOOL)
 
 test:
 	bash .ci/run
 
 check:
-	rt check
+	rt all check
 
 bench: archive spool
 	bash bench/calls.sh
@@ -59,7 +66,7 @@ install: all
 	install -m 644 $(ARCHIVE) $(TO)/lib/liboyinkafubo.a
 	sed -e 's|@PREFIX@|$(PREFIX)|' -e 's|@VERSION@|$(VERSION)|' include/oyinkafubo.pc.in >$(TO)/lib/pkgconfig/oyinkafubo.pc
 	chmod 644 $(TO)/lib/pkgconfig/oyinkafubo.pc
-	install -m 755 target/bin/spool $(TO)/bin/oyinkafubo-spool
+	install -m 755 $(SPOOL) $(TO)/bin/oyinkafubo-spool
 	install -m 755 $(FRONT) $(TO)/bin/oyinkafubo-front
 
 uninstall:
@@ -70,8 +77,8 @@ version:
 	@echo $(VERSION)
 
 fmt:
-	rt fmt
+	for crate in crates/*/; do (cd "$$crate" && rt fmt) || exit 1; done
 	cargo fmt --manifest-path host/Cargo.toml
 
 clean:
-	rm -rf target host/target
+	rm -rf target host/target crates/*/out

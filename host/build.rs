@@ -14,7 +14,7 @@ fn main() {
     println!("cargo:rerun-if-changed={}", archive.display());
     if !archive.is_file() {
         println!("cargo:warning=the archive {} is not there", archive.display());
-        println!("cargo:warning=build it with `rt staticlib capi`, or set OY_ARCHIVE_DIR to its folder");
+        println!("cargo:warning=build it with `make archive`, or set OY_ARCHIVE_DIR to its folder");
         std::process::exit(1);
     }
     println!("cargo:rustc-link-search=native={}", folder.display());

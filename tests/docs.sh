@@ -15,7 +15,7 @@ for file in README.md docs/AUDIT.md docs/GUIDE.md; do
         [ -e "$(dirname "$file")/$link" ] || echo "$file: no $link"
     done | grep . && complain "links that lead nowhere"
 done
-grep -ohE '\b[a-z]+/(src|specs|proofs)/[A-Za-z_]+\.(rt|antt)' README.md docs/AUDIT.md docs/GUIDE.md | sort -u | while read -r file; do
+grep -ohE '\b[a-z_]+/(src|specs|proofs)/[A-Za-z_]+\.(rt|antt)' README.md docs/AUDIT.md docs/GUIDE.md | sort -u | while read -r file; do
     [[ $file = */NAME.* ]] || [ -e "crates/$file" ] || echo "no crates/$file"
 done | grep . && complain "source files that are not there"
 for edit in crates/*/must-fail/*.edit; do

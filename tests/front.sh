@@ -3,7 +3,7 @@
 test=front
 # shellcheck source=tests/asserts.bash
 source "$(dirname "${BASH_SOURCE[0]}")/asserts.bash"
-make -s example >/dev/null || { echo "the example does not build"; exit 1; }
+make -s example spool >/dev/null || { echo "the example or the spool program does not build"; exit 1; }
 front=target/example/front
 site=(SERVER_NAME=q.example SERVER_PORT=80 SERVER_SOFTWARE=gate/1)
 blocks=(--facts REMOTE_ADDR=10.0.0.9 --site "${site[@]}" --mounts /jobs=pool)

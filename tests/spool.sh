@@ -3,8 +3,8 @@
 test=spool
 # shellcheck source=tests/asserts.bash
 source "$(dirname "${BASH_SOURCE[0]}")/asserts.bash"
+make -s spool >/dev/null || { echo "the spool program does not build"; exit 1; }
 spool=target/bin/spool
-[ -x "$spool" ] || { echo "$spool is not built: run make spool"; exit 1; }
 
 # check NAME: runs the program on $dir/in and compares its output with $dir/want
 check() {

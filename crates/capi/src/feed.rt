@@ -20,16 +20,14 @@ pub struct Fed {
 }
 
 // The state before the first byte of a request.
-#[unsafe(no_mangle)]
-pub extern "C" fn oy_socket_new() -> Socket
+pub fn oy_socket_new() -> Socket
     ensures { result ≡ new }
 {
     Socket::fresh()
 }
 
 // Takes the next bytes of a request. The block's bytes go to the front of the buffer, which comes back from call to call as it was left.
-#[unsafe(no_mangle)]
-pub extern "C" fn oy_socket_feed(state: Socket, run: &[u8], block: &mut [u8]) -> Fed
+pub fn oy_socket_feed(state: Socket, run: &[u8], block: &mut [u8]) -> Fed
     ensures { FedAnswered (feed_of state run.now block.old) block.new result }
 {
     let t = state.feed(run, block);

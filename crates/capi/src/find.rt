@@ -6,8 +6,7 @@ use crate::answer::give;
 use headers::lookup::{Lookup, Place, find};
 
 // Where the value of a name stands in a block. Gives 1 there or 0 absent, start, length.
-#[unsafe(no_mangle)]
-pub extern "C" fn oy_scgi_find(block: &[u8], name: &[u8], answer: &mut [u64]) -> u64
+pub fn oy_scgi_find(block: &[u8], name: &[u8], answer: &mut [u64]) -> u64
     ensures { Answered (find_gives block.now name.now) answer.old answer.new result }
 {
     let l = find(block, name);

@@ -1,4 +1,4 @@
-// The calls of the C boundary, each over one proved call.
+// The calls of the C boundary, each over one proved call. `capi_c` exports them.
 //
 // Every call but those of `feed` returns 0, or the number of the refusal. The numbers that it gives go to the front of the lent list `answer`;
 // a list too short for them is 21, last of all. Where a call does not return 0, nothing that was lent is changed. The socket reader's state and

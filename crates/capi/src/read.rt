@@ -6,8 +6,7 @@ use crate::answer::give;
 use scgi::read::{Reading, read};
 
 // The request at the start of the bytes. Gives block start, block length, body start, body length, bytes used.
-#[unsafe(no_mangle)]
-pub extern "C" fn oy_scgi_read(bytes: &[u8], answer: &mut [u64]) -> u64
+pub fn oy_scgi_read(bytes: &[u8], answer: &mut [u64]) -> u64
     ensures { Answered (read_gives bytes.now) answer.old answer.new result }
 {
     let r = read(bytes);

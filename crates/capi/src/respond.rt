@@ -42,8 +42,7 @@ fn action_number(a: Action) -> u64
 
 // What a script's whole output asks of the server under an edition, 0 RFC 3875, 1 the draft of 1996, for a request with the method. Gives
 // the action, 1 serve, 2 redirect, 3 redirect with document, 4 document; the status; Location start and length; body start and length.
-#[unsafe(no_mangle)]
-pub extern "C" fn oy_response(edition: u64, method: &[u8], script: &[u8], answer: &mut [u64]) -> u64
+pub fn oy_response(edition: u64, method: &[u8], script: &[u8], answer: &mut [u64]) -> u64
     ensures { Answered (response_gives edition method.now script.now) answer.old answer.new result }
 {
     let n = edition_of(edition);

@@ -7,8 +7,7 @@ use headers::setting::{Sought, Where, find_setting};
 
 // Where the value of a name stands, the connection facts before the site settings. Gives 0 absent, 1 in the facts, 2 in the site settings; start
 // and length in that block.
-#[unsafe(no_mangle)]
-pub extern "C" fn oy_setting(facts: &[u8], site: &[u8], name: &[u8], answer: &mut [u64]) -> u64
+pub fn oy_setting(facts: &[u8], site: &[u8], name: &[u8], answer: &mut [u64]) -> u64
     ensures { Answered (setting_gives facts.now site.now name.now) answer.old answer.new result }
 {
     let s = find_setting(facts, site, name);

@@ -20,13 +20,7 @@ fn untold_write(block: &[u8], body: &[u8]) -> u64
 }
 
 // Writes the request of a block and a body to the start of out. Gives how many bytes were written.
-#[unsafe(no_mangle)]
-pub extern "C" fn oy_scgi_write(
-    block: &[u8],
-    body: &[u8],
-    out: &mut [u8],
-    answer: &mut [u64],
-) -> u64
+pub fn oy_scgi_write(block: &[u8], body: &[u8], out: &mut [u8], answer: &mut [u64]) -> u64
     ensures { WriteAnswered block.now body.now out.old out.new answer.old answer.new result }
 {
     if answer.len() < 1 {
