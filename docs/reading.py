@@ -18,7 +18,7 @@ BEGIN, END = '<!-- reading: by docs/reading.py -->\n', '<!-- reading ends -->\n'
 
 # the calls whose contracts are read: those that C calls, and two lookups that hand back a part, which a C call can't
 EXPORTED = r'#\[unsafe\(no_mangle\)\]\npub extern "C" fn (\w+)'
-CALLS = [('capi/src/*.rt', EXPORTED), ('headers/src/lookup.rt', r'pub fn (value)\b'), ('headers/src/setting.rt', r'pub fn (setting)\b')]
+CALLS = [('capi_c/src/*.rt', EXPORTED), ('headers/src/lookup.rt', r'pub fn (value)\b'), ('headers/src/setting.rt', r'pub fn (setting)\b')]
 
 # the claims that docs/AUDIT.md cites, by crate
 CLAIMS = {
@@ -146,7 +146,7 @@ def reading():
 
 def in_order(files):
     """All files by crates.txt and within a crate by its Lib.antt, but each after those that it uses."""
-    crates = re.findall(r'^(\w+):', (ROOT / 'crates.txt').read_text(), re.M)
+    crates = re.findall(r'^(\w+)(?: staticlib)?:', (ROOT / 'crates.txt').read_text(), re.M)
     seen, ordered = set(), []
 
     def place(file):
