@@ -82,7 +82,7 @@ loop-end-init c =
 
 pub returns-then-n-eq64 : goal.returns-then-n-eq64
 returns-then-n-eq64 c =
-    too_many c.loop-end.invariant.3 _ _ (next-line c.args.head.now c.loop-end.end _ refl (c.loop-end.invariant.2 c.loop-end-test.true)) c.if-n-eq64.true
+    too_many c.loop-end.invariant.3 _ _ (next-line c.args.head.now c.loop-end.end _ refl (c.loop-end.invariant.2 c.loop-end-test.true)) (omega (arith, c.if-n-eq64.true))
 
 pub overflow_add-start : goal.overflow_add-start
 overflow_add-start c = omega (arith, begins c)
@@ -93,7 +93,7 @@ field_at-l-requires c = (c.requires.0, begins c)
 pub returns-in_default : goal.returns-in_default
 returns-in_default c =
     let h = c.args.head.now in
-    bad-line c.loop-end.invariant.3 _ _ (next-line h c.loop-end.end _ refl (c.loop-end.invariant.2 c.loop-end-test.true)) c.if-n-eq64.false (malformed h (c.loop-end.end + 2) c.field_at-l.result c.in_default.in_default-own.keys2 c.field_at-l.ensures)
+    bad-line c.loop-end.invariant.3 _ _ (next-line h c.loop-end.end _ refl (c.loop-end.invariant.2 c.loop-end-test.true)) (λ (e : c.loop-end.n ≡ 64). c.if-n-eq64.false (omega (arith, e))) (malformed h (c.loop-end.end + 2) c.field_at-l.result c.in_default.in_default-own.keys2 c.field_at-l.ensures)
 
 pub overflow_mul-n : goal.overflow_mul-n
 overflow_mul-n c = omega (arith, c.loop-end.invariant.3.count)
@@ -119,7 +119,7 @@ loop-end-preserved c =
       rw c.put_four.ensures (simp length-set c.loop-end.invariant.1),
       next-ends _ _ _ g b,
       rw (c.put_four.ensures, f.name, f.value, f.len)
-          (onward c.loop-end.invariant.3 _ _ (next-line _ _ _ g e) c.if-n-eq64.false f.field f.there _ (ap (λ (k : ℕ). k + 2) f.ends)),
+          (onward c.loop-end.invariant.3 _ _ (next-line _ _ _ g e) (λ (e : c.loop-end.n ≡ 64). c.if-n-eq64.false (omega (arith, e))) f.field f.there _ (ap (λ (k : ℕ). k + 2) f.ends)),
     )
 
 pub returns : goal.returns

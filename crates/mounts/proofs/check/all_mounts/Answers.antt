@@ -42,7 +42,7 @@ bounds-block-name_end c = omega (arith, (found (goal.at.bounds-block-name_end c)
 
 pub returns-then-block-name_end-eq47 : goal.returns-then-block-name_end-eq47
 returns-then-block-name_end-eq47 c =
-    sym ((header (goal.at.returns-then-block-name_end-eq47 c).In-At).bad (slash-last _ _ _ _ (found (goal.at.returns-then-block-name_end-eq47 c).In-At).order c.if-block-i-ne47.false c.if-block-name_end-eq47.true))
+    sym ((header (goal.at.returns-then-block-name_end-eq47 c).In-At).bad (slash-last _ _ _ _ (found (goal.at.returns-then-block-name_end-eq47 c).In-At).order c.if-block-i-ne47.false (omega (arith, c.if-block-name_end-eq47.true))))
 
 pub overflow_add-name_end : goal.overflow_add-name_end
 overflow_add-name_end c = omega (arith, (found (goal.at.overflow_add-name_end c).In-At).order)
@@ -59,7 +59,7 @@ slice_bounds-read_value-end c = omega (arith, (found (goal.at.slice_bounds-read_
 pub returns-in_default-v : goal.returns-in_default-v
 returns-in_default-v c =
     let v = sym c.read_value-v.ensures ∙ ap value_outcome c.in_default-v.is in
-    sym ((header (goal.at.returns-in_default-v c).In-At).bad (bad-value _ _ _ _ (found (goal.at.returns-in_default-v c).In-At).order c.if-block-i-ne47.false c.if-block-name_end-eq47.false v))
+    sym ((header (goal.at.returns-in_default-v c).In-At).bad (bad-value _ _ _ _ (found (goal.at.returns-in_default-v c).In-At).order c.if-block-i-ne47.false (λ e. c.if-block-name_end-eq47.false (omega (arith, e))) v))
 
 pub overflow_add-i : goal.overflow_add-i
 overflow_add-i c = omega (arith, (found (goal.at.overflow_add-i c).In-At).order)
@@ -70,7 +70,7 @@ loop-i-smaller c = omega (arith, (found (goal.at.loop-i-smaller c).In-At).order)
 pub loop-i-preserved : goal.loop-i-preserved
 loop-i-preserved c =
     let v = sym c.read_value-v.ensures ∙ ap value_outcome c.in-Pool.is in
-    (omega (arith, (found (goal.at.loop-i-preserved c).In-At).order), (header (goal.at.loop-i-preserved c).In-At).good (is-mount _ _ _ _ (found (goal.at.loop-i-preserved c).In-At).order c.if-block-i-ne47.false c.if-block-name_end-eq47.false _ v))
+    (omega (arith, (found (goal.at.loop-i-preserved c).In-At).order), (header (goal.at.loop-i-preserved c).In-At).good (is-mount _ _ _ _ (found (goal.at.loop-i-preserved c).In-At).order c.if-block-i-ne47.false (λ e. c.if-block-name_end-eq47.false (omega (arith, e))) _ v))
 
 pub returns : goal.returns
 returns c = sym (no_more c.loop-i.invariant.1 c.loop-i-test.false)

@@ -33,9 +33,9 @@ returns-in_default c =
 pub returns-then-limit-gt1048576 : goal.returns-then-limit-gt1048576
 returns-then-limit-gt1048576 c =
     let n = sym c.read-n.ensures ∙ ap number_read c.in-Value.is in
-    sym (above-limit _ _ c.find-len.ensures c.if-len-eq0.false c.if-len-v.false _ n c.if-limit-gt1048576.true)
+    sym (above-limit _ _ c.find-len.ensures c.if-len-eq0.false c.if-len-v.false _ n (omega (arith, c.if-limit-gt1048576.true)))
 
 pub returns : goal.returns
 returns c =
     let n = sym c.read-n.ensures ∙ ap number_read c.in-Value.is in
-    sym (is-limit _ _ c.find-len.ensures c.if-len-eq0.false c.if-len-v.false _ n c.if-limit-gt1048576.false)
+    sym (is-limit _ _ c.find-len.ensures c.if-len-eq0.false c.if-len-v.false _ n (omega (arith, c.if-limit-gt1048576.false)))

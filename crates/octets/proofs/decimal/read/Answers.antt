@@ -9,11 +9,11 @@ pub returns-then-s-eq0 : goal.returns-then-s-eq0
 returns-then-s-eq0 c = sym (number-empty c.args.s.now c.if-s-eq0.true)
 
 pub returns-then-s-gt10 : goal.returns-then-s-gt10
-returns-then-s-gt10 c = sym (number-long c.args.s.now c.if-s-gt10.true)
+returns-then-s-gt10 c = sym (number-long c.args.s.now (omega (arith, c.if-s-gt10.true)))
 
 pub loop-i-init : goal.loop-i-init
 unfolding ten_to
-loop-i-init c = (search rules, c.if-s-gt10.false, omega arith, number-some _ (omega arith) c.if-s-gt10.false)
+loop-i-init c = (search rules, (omega (arith, c.if-s-gt10.false)), omega arith, number-some _ (omega arith) (omega (arith, c.if-s-gt10.false)))
 
 pub returns-then-b-lt48 : goal.returns-then-b-lt48
 returns-then-b-lt48 c =

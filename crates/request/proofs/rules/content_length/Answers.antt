@@ -27,7 +27,7 @@ says :
 says c =
     let f = (let it : (let a = c.args in
     FoundIn a.head.now (values_of (bytes "content-length") (lowered (fields_at a.head.now a.places.now 0 a.n))) c.named-lengths.result) = lengths _ _ _ c.requires.2 c.named-lengths.ensures in it) in
-    states-one _ f c.if-lengths-eq0.false c.if-lengths-gt1.false
+    states-one _ f c.if-lengths-eq0.false (omega (arith, c.if-lengths-gt1.false))
     ∙ ap (λ s. given (number_of s) 17) (sym (part c.args.head.now c.named-lengths.result.start c.named-lengths.result.len))
     ∙ ap (λ o. given o 17) (sym c.read-v.ensures)
 
@@ -38,7 +38,7 @@ pub returns-then-lengths-eq0 : goal.returns-then-lengths-eq0
 returns-then-lengths-eq0 c = sym (states-none _ (found (goal.at.returns-then-lengths-eq0 c).After-named-lengths) c.if-lengths-eq0.true)
 
 pub returns-then-lengths-gt1 : goal.returns-then-lengths-gt1
-returns-then-lengths-gt1 c = sym (states-two _ (found (goal.at.returns-then-lengths-gt1 c).After-named-lengths) c.if-lengths-gt1.true)
+returns-then-lengths-gt1 c = sym (states-two _ (found (goal.at.returns-then-lengths-gt1 c).After-named-lengths) (omega (arith, c.if-lengths-gt1.true)))
 
 pub overflow_add-end : goal.overflow_add-end
 overflow_add-end c = omega (arith, (found (goal.at.overflow_add-end c).After-named-lengths).inside)

@@ -1,4 +1,4 @@
-use mathlib.Core.Path.{refl, sym, ap, ◌∙◌}
+use mathlib.Core.Path.{◌≡◌, refl, sym, ap, ◌∙◌}
 use mathlib.Core.List.{List}
 use Prim.Native.Nat.{ℕ, ◌-◌, ◌≤◌}
 use lib.ListN.{take, drop, length-take}
@@ -49,7 +49,7 @@ pub returns-then-l-at : goal.returns-then-l-at
 returns-then-l-at c = sym (ends c.loop-at.invariant _ c.find-e.ensures c.if-t-e.false _ c.bare_end-l.ensures c.if-l-at.true)
 
 pub returns-then-n-eq64 : goal.returns-then-n-eq64
-returns-then-n-eq64 c = sym (too_many c.loop-at.invariant _ c.find-e.ensures c.if-t-e.false _ c.bare_end-l.ensures c.if-l-at.false c.if-n-eq64.true)
+returns-then-n-eq64 c = sym (too_many c.loop-at.invariant _ c.find-e.ensures c.if-t-e.false _ c.bare_end-l.ensures c.if-l-at.false (omega (arith, c.if-n-eq64.true, c.loop-at.invariant.count)))
 
 pub slice_bounds-line_step-count : goal.slice_bounds-line_step-count
 slice_bounds-line_step-count c = line-starts (goal.at.slice_bounds-line_step-count c).After-bare_end-l
@@ -80,7 +80,7 @@ loop-at-smaller c = omega (arith, c.if-t-e.false, starts (goal.at.loop-at-smalle
 
 pub loop-at-preserved : goal.loop-at-preserved
 loop-at-preserved c =
-    onward c.loop-at.invariant _ c.find-e.ensures c.if-t-e.false _ c.bare_end-l.ensures c.if-l-at.false c.if-n-eq64.false _ (sym (ap step_option c.in-Next.is) ∙ c.line_step-r.ensures)
+    onward c.loop-at.invariant _ c.find-e.ensures c.if-t-e.false _ c.bare_end-l.ensures c.if-l-at.false (λ (e : c.loop-at.n ≡ 64). c.if-n-eq64.false (omega (arith, e, c.loop-at.invariant.count))) _ (sym (ap step_option c.in-Next.is) ∙ c.line_step-r.ensures)
 
 pub returns : goal.returns
 returns c = sym (at_end c.loop-at.invariant c.loop-at-test.false)

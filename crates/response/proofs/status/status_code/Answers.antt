@@ -1,3 +1,4 @@
+use native.Mathlib.Omega.{arith}
 use mathlib.Core.Bool.{true}
 use mathlib.Core.Path.{◌≡◌, sym, ap, ◌∙◌}
 use lib.Seq.{length-take-le}
@@ -23,7 +24,7 @@ pub returns-then-n-lt200 : goal.returns-then-n-lt200
 returns-then-n-lt200 c = sym (low _ (three (goal.at.returns-then-n-lt200 c).Else-not-three_alone) _ (sym c.read-d.ensures ∙ ap number_read c.in-Value.is) c.if-n-lt200.true)
 
 pub returns-then-n-gt599 : goal.returns-then-n-gt599
-returns-then-n-gt599 c = sym (high _ (three (goal.at.returns-then-n-gt599 c).Else-not-three_alone) _ (sym c.read-d.ensures ∙ ap number_read c.in-Value.is) c.if-n-gt599.true)
+returns-then-n-gt599 c = sym (high _ (three (goal.at.returns-then-n-gt599 c).Else-not-three_alone) _ (sym c.read-d.ensures ∙ ap number_read c.in-Value.is) (omega (arith, c.if-n-gt599.true)))
 
 pub returns : goal.returns
-returns c = sym (right _ (three (goal.at.returns c).Else-not-three_alone) _ (sym c.read-d.ensures ∙ ap number_read c.in-Value.is) c.if-n-lt200.false c.if-n-gt599.false)
+returns c = sym (right _ (three (goal.at.returns c).Else-not-three_alone) _ (sym c.read-d.ensures ∙ ap number_read c.in-Value.is) c.if-n-lt200.false (omega (arith, c.if-n-gt599.false)))

@@ -1,3 +1,4 @@
+use native.Mathlib.Omega.{arith}
 use mathlib.Core.Path.{◌≡◌, sym, ap, ◌∙◌}
 use lib.Seq.{length-take-le}
 use Rattle.octets.specs.Scan.{count}
@@ -30,7 +31,7 @@ slice_bounds-slashes-end c =
     sym (length-take-le _ t (path_inside t _ c.find-path_len.ensures))
 
 pub returns-then-slashes-gt64 : goal.returns-then-slashes-gt64
-returns-then-slashes-gt64 c = sym (raw-slashes _ (rw (slashes_are (goal.at.returns-then-slashes-gt64 c).After-slashes-slashes) at c.if-slashes-gt64.true))
+returns-then-slashes-gt64 c = sym (raw-slashes _ (omega (arith, slashes_are (goal.at.returns-then-slashes-gt64 c).After-slashes-slashes, c.if-slashes-gt64.true)))
 
 pub returns : goal.returns
 returns c =
@@ -45,4 +46,4 @@ returns c =
     c.run_end.ensures
     c.if-run_end-t.false
     (sym c.escapes.ensures ∙ c.if-not-escapes.false)
-    (rw (slashes_are (goal.at.returns c).After-slashes-slashes) at c.if-slashes-gt64.false)))
+    (omega (arith, slashes_are (goal.at.returns c).After-slashes-slashes, c.if-slashes-gt64.false))))
