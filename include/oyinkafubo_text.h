@@ -43,7 +43,7 @@ OYINKAFUBO_MAY_REST_ static const struct oy_refusal_entry *oy_refusal_row(uint64
         /* 18 */ {501, "Transfer-Encoding present"},
         /* 19 */ {404, "no mount fits the path"},
         /* 20 */ {500, "connection facts, site settings or mounts wrong, or no such edition"},
-        /* 21 */ {0, "output, answer or buffer too short"},
+        /* 21 */ {0, "output or answer too short"},
         /* 22 */ {431, "not given any more; the number stays unused"},
         /* 23 */ {500, "body length differs from CONTENT_LENGTH"},
         /* 24 */ {502, "script response head malformed"},

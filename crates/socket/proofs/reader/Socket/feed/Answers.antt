@@ -7,7 +7,7 @@ use Rattle.socket.proofs.reader.Socket.feed.Goals.{After-sound-self}
 
 pub returns-then-block-lt16384 : goal.returns-then-block-lt16384
 returns-then-block-lt16384 c =
-    rw (no_room c.args.self c.args.run.now c.args.block.now c.if-block-lt16384.true)
+    rw (no_room c.args.self c.args.run.now c.args.block.now (omega (arith, c.if-block-lt16384.true)))
     (record { step = record { state = refl; answer = refl; body = refl; after = refl }; buffer = refl })
 
 -- the state within its limits

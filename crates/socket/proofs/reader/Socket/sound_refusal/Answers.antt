@@ -1,4 +1,5 @@
 use mathlib.Core.Path.{sym, ◌∙◌}
+use native.Mathlib.Omega.{arith}
 use Rattle.socket.proofs.Steps.{no-stage, too_small, too_large, kept}
 use Rattle.socket.proofs.reader.Socket.sound_refusal.Goals as goal
 
@@ -11,7 +12,7 @@ returns-then-self-lt2 c =
 
 pub returns-then-self-gt10 : goal.returns-then-self-gt10
 returns-then-self-gt10 c =
-    c.fresh-then-self-gt10.ensures ∙ sym (too_large c.args.self c.if-self-ne-REFUSED.false c.if-self-gt10.true)
+    c.fresh-then-self-gt10.ensures ∙ sym (too_large c.args.self c.if-self-ne-REFUSED.false (omega (arith, c.if-self-gt10.true)))
 
 pub returns : goal.returns
 returns c =
