@@ -1,6 +1,6 @@
 # make            the archive, the spool program and the example front end
 # make run        an HTTP request through the example front end, and its SCGI bytes through the spool program
-# make test       the whole gate: proofs from nothing, edits that must be refused, programs, tests
+# make test       the whole gate: proofs, edits that must be refused, programs, tests
 # make check      prove what changed
 # make bench      the archive beside the Rust implementation, and the spool program beside cat and wc
 # make install    headers, archive, pkg-config file and programs below PREFIX (and DESTDIR); make uninstall takes them away

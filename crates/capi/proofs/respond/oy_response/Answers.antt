@@ -17,8 +17,7 @@ by-edition n m s p = ap (λ (o : Outcome Edition). then o (λ e. response_by e m
 -- what the response is by the call's definition
 responded :
     (c : After-respond_by-r)
-    → (
-    response_for c.args.edition c.args.method.now c.args.script.now ≡ response_outcome c.respond_by-r.result)
+    → response_for c.args.edition c.args.method.now c.args.script.now ≡ response_outcome c.respond_by-r.result
 responded c =
     let known = sym c.edition_of-n.ensures ∙ ap numbered_outcome c.in-Known.is in
     let gave : response_outcome c.respond_by-r.result ≡ response_by c.in-Known.e c.args.method.now c.args.script.now = c.respond_by-r.ensures in

@@ -17,12 +17,9 @@ use Rattle.mounts.specs.Mounts.{Mount, route_of}
 use Rattle.mounts.specs.Search.{mount_outcome}
 use Rattle.lent.specs.Claims.{Accepted}
 use Rattle.lent.specs.Places.{settings_at}
-use Rattle.lent.specs.declared.places.SettingPlaces.{SettingPlaces}
 use Rattle.lent.proofs.Claims.{lent-told}
 use Rattle.request.specs.Request.{Request}
 use Rattle.request.specs.RequestRead.{request_in}
-use Rattle.request.specs.declared.read.LinePlaces.{LinePlaces}
-use Rattle.request.specs.declared.read.FieldPlaces.{FieldPlaces}
 use Rattle.request.specs.Claims.{RequestStands}
 use Rattle.request.proofs.Claims.{requests-told}
 use Rattle.variables.specs.Meaning.{meaning_of}
@@ -31,7 +28,7 @@ use Rattle.variables.specs.declared.sources.Sources.{Sources}
 use Rattle.gateway.specs.Body.{Body, body_outcome}
 use Rattle.gateway.specs.Step.{Forward, forward_by, step_of}
 use Rattle.gateway.specs.Write.{block_for, RequestFits}
-use Rattle.gateway.specs.Stepping.{Stepped, stepping_by, PathFits}
+use Rattle.gateway.specs.Stepping.{Stepped, PathFits}
 use Rattle.gateway.specs.declared.step.Stepping.TheVariants.{Refused}
 use Rattle.gateway.proofs.StepParts.{left_alone, step-lent, step-head, step-read, step-mount, step-body, step-written, answered-by, mount_by, lost, Won, won, body_refused, BodyThere, body_there, block_is, fields-count}
 use Rattle.gateway.proofs.Fits.{bound-holds, bound-limit}

@@ -18,8 +18,7 @@ found c =
 
 header :
     (c : In-At)
-    → (
-    let a = c.args in
+    → (let a = c.args in
     Turn a.block.now a.name.now c.loop-i.i c.in-At.name_end c.in-At.value_end)
 header c = turn c.loop-i.invariant.1 _ _ (found c)
 

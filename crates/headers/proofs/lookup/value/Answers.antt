@@ -20,8 +20,7 @@ got :
     (c : In-At)
     → (let a = c.args in
     lookup_of a.block.now a.name.now ≡ gives (some (record { start = c.in-At.start; len = c.in-At.len })))
-got c = (let it : (let a = c.args in
-    lookup_of a.block.now a.name.now ≡ gives (place_option c.in-Found.p)) = sym c.find-l.ensures ∙ ap lookup_outcome c.in-Found.is in it) ∙ ap (λ x. gives (place_option x)) c.in-At.is
+got c = held (goal.at.overflow_add-result c).In-Found ∙ ap (λ x. gives (place_option x)) c.in-At.is
 
 pub returns-in_default : goal.returns-in_default
 returns-in_default c =

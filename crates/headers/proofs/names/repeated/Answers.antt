@@ -10,8 +10,7 @@ use Rattle.headers.proofs.names.repeated.Goals.{After-is_stored}
 -- what the comparison says of the two names
 seen :
     (c : After-is_stored)
-    → (
-    let a = c.args in
+    → (let a = c.args in
     same_bytes (name_at a.block.now a.places.now a.k) (name_at a.block.now a.places.now c.loop-j.j) ≡ c.is_stored.result)
 seen c =
     same-turned _ _ ∙ sym (c.is_stored.ensures ∙ rw c.stored_name-name.ensures.0)

@@ -12,8 +12,7 @@ use Rattle.headers.proofs.names.stored_differ.Goals.{After-repeated}
 -- whether the name with number k stands again behind its place, by the call
 again :
     (c : After-repeated)
-    → (
-    let a = c.args in
+    → (let a = c.args in
     let k = c.loop-k.k in
     is_in (name_at a.block.now a.places.now k) (names_at a.block.now a.places.now (k + 1) (a.n - (k + 1))) ≡ c.repeated.result)
 again c = sym c.repeated.ensures

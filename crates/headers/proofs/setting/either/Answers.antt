@@ -18,15 +18,13 @@ in_one :
     (c : In-First)
     → (let a = c.args in
     setting_of a.first.now a.second.now a.name.now ≡ gives (in_first (record { start = c.in-First.start; len = c.in-First.len })))
-in_one c = (let it : (let a = c.args in
-    setting_of a.first.now a.second.now a.name.now ≡ gives (held_by c.in-Found.w)) = sym c.find_setting-s.ensures ∙ ap sought_outcome c.in-Found.is in it) ∙ ap (λ x. gives (held_by x)) c.in-First.is
+in_one c = held (goal.at.overflow_add-result c).In-Found ∙ ap (λ x. gives (held_by x)) c.in-First.is
 
 in-other :
     (c : In-Second)
     → (let a = c.args in
     setting_of a.first.now a.second.now a.name.now ≡ gives (in_second (record { start = c.in-Second.start; len = c.in-Second.len })))
-in-other c = (let it : (let a = c.args in
-    setting_of a.first.now a.second.now a.name.now ≡ gives (held_by c.in-Found.w)) = sym c.find_setting-s.ensures ∙ ap sought_outcome c.in-Found.is in it) ∙ ap (λ x. gives (held_by x)) c.in-Second.is
+in-other c = held (goal.at.overflow_add-result-in-Second c).In-Found ∙ ap (λ x. gives (held_by x)) c.in-Second.is
 
 pub returns-in_default : goal.returns-in_default
 returns-in_default c =

@@ -2,7 +2,7 @@ use mathlib.Core.Path.{◌≡◌, sym, ap}
 use mathlib.Core.Bool.{Bool}
 use mathlib.Core.List.{List}
 use mathlib.Core.Option.{Option, none}
-use Prim.Native.Nat.{ℕ, ◌+◌, ◌≤◌}
+use Prim.Native.Nat.{ℕ, ◌≤◌}
 use lib.ListN.{length, drop, length-drop}
 use Rattle.octets.specs.Kinds.{is_blank}
 use Rattle.octets.proofs.Scans.{run-within}
@@ -20,12 +20,6 @@ malformed rule line e = sym (ap (λ (o : Option Field). numbers_if o line) e)
 value_in : (c : After-blank_end-v) → c.blank_end-v.result ≤ length c.args.line.now
 value_in c = rw c.blank_end-v.ensures (run-within is_blank _ _ (omega arith))
 
-end-in : (c : After-kept_len-k) → c.blank_end-v.result + c.kept_len-k.result ≤ length c.args.line.now
-end-in c =
-    let s = c.args.line.now in
-    let v = c.blank_end-v.result in
-    omega (arith, c.kept_len-k.ensures, (let it : c.blank_end-v.result ≤ length c.args.line.now = rw c.blank_end-v.ensures (run-within is_blank _ _ (omega arith)) in it), kept-le (drop v s), length-drop v s)
-
 pub returns-then-line-n : goal.returns-then-line-n
 returns-then-line-n c = malformed _ _ (no-colon _ _ _ c.find-n.ensures c.if-line-n.true)
 
@@ -42,7 +36,10 @@ pub run_end-requires-2 : goal.run_end-requires-2
 run_end-requires-2 c = (c.requires, value_in (goal.at.run_end-requires-2 c).After-blank_end-v)
 
 pub overflow_add-v : goal.overflow_add-v
-overflow_add-v c = omega (arith, end-in (goal.at.overflow_add-v c).After-kept_len-k)
+overflow_add-v c =
+    let s = c.args.line.now in
+    let v = c.blank_end-v.result in
+    omega (arith, c.kept_len-k.ensures, value_in (goal.at.overflow_add-v c).After-blank_end-v, kept-le (drop v s), length-drop v s)
 
 pub returns-then-run_end-v : goal.returns-then-run_end-v
 returns-then-run_end-v c =

@@ -19,7 +19,7 @@ room : (c : Else-places-n) → 2 * c.in-Headers.n ≤ length c.args.places.now
 room c = omega (arith, c.store_names-c.ensures.size)
 
 held : (c : Else-places-n) → NamesIn c.args.block.now c.store_names-c.new.places c.in-Headers.n
-held c = names-held _ _ _ _ _ c.store_names-c.ensures ((let it : count_of c.args.block.now ≡ gives c.in-Headers.n = sym c.store_names-c.ensures.count ∙ ap count_outcome c.in-Headers.is in it)) (room c)
+held c = names-held _ _ _ _ _ c.store_names-c.ensures (count (goal.at.stored_differ-requires c).In-Headers) (room c)
 
 pub returns-then-limit-block : goal.returns-then-limit-block
 returns-then-limit-block c = record { answer = long-block _ c.args.block.now (length c.args.places.now) c.if-limit-block.true; stored = tt }

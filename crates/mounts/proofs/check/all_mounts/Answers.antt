@@ -18,8 +18,7 @@ found c =
 
 header :
     (c : In-At)
-    → (
-    let b = c.args.block.now in
+    → (let b = c.args.block.now in
     Step b c.in-At.value_end (is_mount b c.loop-i.i c.in-At.name_end c.in-At.value_end (found c).order))
 header c = step c.loop-i.invariant.1 _ _ (found c)
 

@@ -25,8 +25,7 @@ says :
     → (let a = c.args in
     stated_by (values_of (bytes "content-length") (lowered (fields_at a.head.now a.places.now 0 a.n))) ≡ given (number_read c.read-v.result) 17)
 says c =
-    let f = (let it : (let a = c.args in
-    FoundIn a.head.now (values_of (bytes "content-length") (lowered (fields_at a.head.now a.places.now 0 a.n))) c.named-lengths.result) = lengths _ _ _ c.requires.2 c.named-lengths.ensures in it) in
+    let f = lengths _ _ _ c.requires.2 c.named-lengths.ensures in
     states-one _ f c.if-lengths-eq0.false (omega (arith, c.if-lengths-gt1.false))
     ∙ ap (λ s. given (number_of s) 17) (sym (part c.args.head.now c.named-lengths.result.start c.named-lengths.result.len))
     ∙ ap (λ o. given o 17) (sym c.read-v.ensures)

@@ -17,7 +17,7 @@ held :
     (c : After-few-3-1)
     → NamesIn c.args.block.now c.store_names-c.new.places c.in-Headers.n
 held c =
-    names-held _ _ _ _ _ c.store_names-c.ensures ((let it : count_of c.args.block.now ≡ gives c.in-Headers.n = sym c.store_names-c.ensures.count ∙ ap count_outcome c.in-Headers.is in it)) (omega (arith, c.if-n-gt32.false))
+    names-held _ _ _ _ _ c.store_names-c.ensures (count (goal.at.stored_differ-requires c).In-Headers) (omega (arith, c.if-n-gt32.false))
 
 pub returns-in_default : goal.returns-in_default
 returns-in_default c =

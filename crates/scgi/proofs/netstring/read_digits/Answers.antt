@@ -35,8 +35,7 @@ here c = c.loop-i.invariant.3 ∙ turn _ _ _ _ c.loop-i-test.true
 -- after a digit that is no fault
 digit :
     (c : Joined-n-gt0-2)
-    → (
-    let a = c.args in
+    → (let a = c.args in
     let s = a.s.now in
     let i = c.loop-i.i in
     let n = c.loop-i.n in
@@ -44,19 +43,13 @@ digit :
     digits_from a.count a.value s ≡ need (leb v 16384) 3 (digits_from (n + 1) v (drop (i + 1) s)))
 unfolding is_digit
 digit c =
-    rw ((let it : (let a = c.args in
-    let s = a.s.now in
-    let i = c.loop-i.i in
-    let n = c.loop-i.n in
-    let v = c.loop-i.v in
-    digits_from a.count a.value s ≡ digit_step n v (get_or s i 0) (digits_from (n + 1) (v * 10 + (get_or s i 0 - 48)) (drop (i + 1) s))) = c.loop-i.invariant.3 ∙ turn _ _ _ _ c.loop-i-test.true in it))
+    rw (c.loop-i.invariant.3 ∙ turn _ _ _ _ c.loop-i-test.true)
     (⊎_elim (λ w. search tests) (λ w. search tests) c.if-n-gt0-2.branch-raw)
 
 -- there are not more digits than their number, but for the first
 few :
     (c : Joined-n-gt0-2)
-    → (
-    let l = c.loop-i in
+    → (let l = c.loop-i in
     l.n + 1 ≤ l.v * 10 + (get_or c.args.s.now l.i 0 - 48) + 1)
 few c =
     ⊎_elim (λ w. omega arith) (λ w. omega arith) c.if-n-gt0-2.branch-raw

@@ -10,8 +10,7 @@ use Rattle.scgi.proofs.netstring.read_length.Goals.{In-Read}
 -- the digits, where the pattern matched
 got :
     (c : In-Read)
-    → (
-    digits_from 0 0 c.args.s.now ≡ gives (record { count = c.in-Read.count; value = c.in-Read.value; colon = c.in-Read.colon }))
+    → digits_from 0 0 c.args.s.now ≡ gives (record { count = c.in-Read.count; value = c.in-Read.value; colon = c.in-Read.colon })
 got c = sym c.read_digits-d.ensures ∙ ap digits_outcome c.in-Read.is
 
 pub returns-in_default : goal.returns-in_default

@@ -20,19 +20,15 @@ got c = sym c.read_length-l.ensures ∙ ap length_outcome c.in-Value.is
 -- what the check says of the block
 checked :
     (c : After-check_block-c)
-    → (
-    check_block (take c.in-Value.len (drop c.in-Value.next c.args.s.now)) ≡ checked_outcome c.check_block-c.result)
+    → check_block (take c.in-Value.len (drop c.in-Value.next c.args.s.now)) ≡ checked_outcome c.check_block-c.result
 checked c =
     sym (c.check_block-c.ensures ∙ ap check_block (part c.args.s.now c.in-Value.next c.in-Value.len))
 
 -- the body length, where the pattern matched
 body :
     (c : In-Body)
-    → (
-    check_block (take c.in-Value.len (drop c.in-Value.next c.args.s.now)) ≡ gives c.in-Body.n)
-body c = (let it : (
-    check_block (take c.in-Value.len (drop c.in-Value.next c.args.s.now)) ≡ checked_outcome c.check_block-c.result) =
-    sym (c.check_block-c.ensures ∙ ap check_block (part c.args.s.now c.in-Value.next c.in-Value.len)) in it) ∙ ap checked_outcome c.in-Body.is
+    → check_block (take c.in-Value.len (drop c.in-Value.next c.args.s.now)) ≡ gives c.in-Body.n
+body c = checked (goal.at.overflow_add-used-2 c).After-check_block-c ∙ ap checked_outcome c.in-Body.is
 
 pub returns-in_default : goal.returns-in_default
 returns-in_default c =

@@ -14,15 +14,13 @@ use Rattle.scgi.proofs.spool.spool.Goals.{After-read_used-u, In-Bytes}
 -- what the reader says of the bytes from i on
 says : (c : After-read_used-u) → (used_of (drop c.loop-i.i c.args.bytes.now) ≡ used_outcome c.read_used-u.result)
 says c =
-    let c = c in
     sym (c.read_used-u.ensures ∙ ap used_of (from c.args.bytes.now c.loop-i.i))
 
 -- the used count, where the pattern matched
 reads :
     (c : In-Bytes)
     → (used_of (drop c.loop-i.i c.args.bytes.now) ≡ gives c.in-Bytes.used)
-reads c = (let it : (used_of (drop c.loop-i.i c.args.bytes.now) ≡ used_outcome c.read_used-u.result) = let c = c in
-    sym (c.read_used-u.ensures ∙ ap used_of (from c.args.bytes.now c.loop-i.i)) in it) ∙ ap used_outcome c.in-Bytes.is
+reads c = sym (c.read_used-u.ensures ∙ ap used_of (from c.args.bytes.now c.loop-i.i)) ∙ ap used_outcome c.in-Bytes.is
 
 ends :
     (c : In-Bytes)

@@ -19,7 +19,7 @@ size c = omega (arith, size_is c.args.block.now c.args.body.now, c.digits.ensure
 
 -- the output has room for it
 room : (c : Else-out-size) → length (netstring c.args.block.now ++ c.args.body.now) ≤ length c.args.out.now
-room c = omega (arith, (let it : length (netstring c.args.block.now ++ c.args.body.now) ≡ c.digits.result + 2 + length c.args.block.now + length c.args.body.now = omega (arith, size_is c.args.block.now c.args.body.now, c.digits.ensures) in it))
+room c = omega (arith, size_is c.args.block.now c.args.body.now, c.digits.ensures)
 
 pub overflow_add-size : goal.overflow_add-size
 overflow_add-size c = omega (arith, small c)

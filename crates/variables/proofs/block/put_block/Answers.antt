@@ -2,7 +2,6 @@ use Prim.Native.Nat.{ℕ}
 use mathlib.Core.Path.{◌≡◌, refl}
 use mathlib.Core.List.{List, ◌++◌}
 use native.Mathlib.Omega.{arith}
-use borrow.Author.Rules.{rules}
 use Rattle.headers.specs.Block.{printed}
 use Rattle.variables.specs.FixedVariables.{content_variables, path_variables, request_variables, server_variables}
 use Rattle.variables.specs.FieldVariables.{fields_bytes}

@@ -1,33 +1,22 @@
 use Prim.Native.Nat.{◌+◌, ◌≤◌}
-use mathlib.Core.List.{map}
-use mathlib.Core.Path.{◌≡◌, sym, ◌∙◌}
+use mathlib.Core.Path.{sym, ◌∙◌}
 use native.Mathlib.Omega.{arith}
 use lib.ListN.{length, length-append}
-use Rattle.octets.specs.Compare.{same_bytes, lower_of}
 use Rattle.octets.proofs.Copies.{and_then}
 use Rattle.http_head.specs.Fields.{field_at}
-use Rattle.variables.specs.FieldVariables.{low_name}
 use Rattle.variables.proofs.Puts.{wrote_none}
 use Rattle.variables.proofs.field_variables.put_added.Goals as goal
 use Rattle.variables.proofs.field_variables.put_added.Goals.{After-has_name, Else-not-has_name}
 
--- what the comparison says of the two names
-told :
-    (c : After-has_name)
-    → (let a = c.args in
-    same_bytes (low_name a.head.now a.places.now a.j) (map lower_of a.name.now) ≡ c.has_name.result)
-told c = sym c.has_name.ensures
-
 -- the room, where the names are the same
 room : (c : Else-not-has_name) → (let a = c.args in a.at + (length a.between.now + length (field_at a.head.now a.places.now a.j).value) ≤ length a.out.now)
-room c = simp length-append at (rw ((let it : (let a = c.args in
-    same_bytes (low_name a.head.now a.places.now a.j) (map lower_of a.name.now) ≡ c.has_name.result) = sym c.has_name.ensures in it) ∙ c.if-not-has_name.false) at c.requires.1)
+room c = simp length-append at (rw (sym c.has_name.ensures ∙ c.if-not-has_name.false) at c.requires.1)
 
 pub has_name-requires : goal.has_name-requires
 has_name-requires c = c.requires.0
 
 pub returns-then-not-has_name : goal.returns-then-not-has_name
-returns-then-not-has_name c = rw (told (goal.at.returns-then-not-has_name c).After-has_name ∙ c.if-not-has_name.true) (wrote_none _ _)
+returns-then-not-has_name c = rw (sym c.has_name.ensures ∙ c.if-not-has_name.true) (wrote_none _ _)
 
 pub put-n-requires : goal.put-n-requires
 put-n-requires c = omega (arith, room (goal.at.put-n-requires c).Else-not-has_name)
@@ -40,4 +29,4 @@ put_any-requires c = rw c.field_value-value.ensures.0 (omega (arith, c.put-n.ens
 
 pub returns : goal.returns
 returns c =
-    rw (told (goal.at.returns c).After-has_name ∙ c.if-not-has_name.false) (and_then c.put-n.ensures (omega (arith, room (goal.at.returns c).Else-not-has_name)) _ _ _ (rw c.field_value-value.ensures.0 at c.put_any.ensures))
+    rw (sym c.has_name.ensures ∙ c.if-not-has_name.false) (and_then c.put-n.ensures (omega (arith, room (goal.at.returns c).Else-not-has_name)) _ _ _ (rw c.field_value-value.ensures.0 at c.put_any.ensures))

@@ -3,7 +3,6 @@ use mathlib.Core.Path.{◌≡◌, ◌∙◌}
 use mathlib.Core.List.{List, [], ◌∷◌, ◌++◌}
 use native.Mathlib.Omega.{arith}
 use lib.ListN.{length, length-append, length-map}
-use borrow.Author.Rules.{rules}
 use Rattle.octets.specs.Copy.{Wrote}
 use Rattle.octets.proofs.Copies.{and_then}
 use Rattle.http_head.specs.Fields.{field_at}

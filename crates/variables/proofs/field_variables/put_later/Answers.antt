@@ -1,4 +1,3 @@
-use Prim.Native.Nat.{◌-◌}
 use mathlib.Core.Path.{refl}
 use native.Mathlib.Omega.{arith}
 use borrow.Author.Rules.{rules}
@@ -13,8 +12,7 @@ use Rattle.variables.proofs.field_variables.put_later.Goals.{After-slice_known-i
 -- what the field with number j added
 added :
     (c : After-slice_known-in-loop-j-1)
-    → (
-    let a = c.args in
+    → (let a = c.args in
     let x = low_name a.head.now a.places.now a.k in
     Wrote c.loop-j.out c.loop-j.p (added_at a.head.now a.places.now x (separator x) c.loop-j.j) c.put_added-p.new.out c.put_added-p.result)
 added c = rw (c.separator-between.ensures, c.field_name-name.ensures.0) at c.put_added-p.ensures

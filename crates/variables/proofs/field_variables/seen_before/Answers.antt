@@ -12,8 +12,7 @@ use Rattle.variables.proofs.field_variables.seen_before.Goals.{After-has_name}
 -- what the comparison says of the two names
 seen :
     (c : After-has_name)
-    → (
-    let a = c.args in
+    → (let a = c.args in
     same_bytes (low_name a.head.now a.places.now a.k) (low_name a.head.now a.places.now (c.loop-j.j - 1)) ≡ c.has_name.result)
 seen c = same-turned _ _ ∙ sym (c.has_name.ensures ∙ rw c.field_name-name.ensures.0)
 

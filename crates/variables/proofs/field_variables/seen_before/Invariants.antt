@@ -1,4 +1,4 @@
-use Prim.Native.Nat.{◌≤◌, ◌-◌}
+use Prim.Native.Nat.{◌≤◌}
 use Rattle.variables.specs.FieldVariables.{low_name, names_before}
 use Rattle.octets.specs.Lists.{is_in}
 use mathlib.Core.Path.{◌≡◌}

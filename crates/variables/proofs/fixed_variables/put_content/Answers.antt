@@ -13,7 +13,7 @@ use Rattle.request.specs.RequestRead.{part_if}
 use Rattle.variables.specs.Put.{variable, if_there}
 use Rattle.variables.specs.Variables.{if_present, Rows, present, auth_type_of}
 use Rattle.variables.specs.FixedVariables.{content_variables}
-use Rattle.variables.proofs.Puts.{Left, left-all, left-room, left-more, left-last, wrote-length}
+use Rattle.variables.proofs.Puts.{Left, left-all, left-room, left-more, left-last}
 use Rattle.variables.proofs.FixedVariables.{behind_digits, content-start, auth-type-row, content-type-row}
 use Rattle.variables.proofs.fixed_variables.put_content.Goals as goal
 use Rattle.variables.proofs.fixed_variables.put_content.Goals.{Start}

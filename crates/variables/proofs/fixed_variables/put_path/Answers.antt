@@ -2,11 +2,8 @@ use Prim.Native.Nat.{ℕ, ◌-◌}
 use mathlib.Core.Path.{◌≡◌}
 use mathlib.Core.List.{List}
 use lib.ListN.{take, drop}
-use borrow.Author.Rules.{rules}
 use Rattle.headers.specs.Block.{Header, printed}
-use Rattle.octets.specs.Copy.{Wrote}
 use Rattle.variables.specs.FixedVariables.{path_variables}
-use Rattle.variables.proofs.Puts.{wrote-length}
 use Rattle.variables.proofs.FixedVariables.{RowsLeft, rows_all, row_room, row_more, row_last, rest-take}
 use Rattle.variables.proofs.fixed_variables.put_path.Goals as goal
 use Rattle.variables.proofs.fixed_variables.put_path.Goals.{Start}

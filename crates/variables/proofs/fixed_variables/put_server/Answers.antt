@@ -4,11 +4,8 @@ use mathlib.Core.List.{List}
 use native.Mathlib.Omega.{arith}
 use lib.ListN.{drop}
 use lib.Seq.{length-take-le, take-take}
-use borrow.Author.Rules.{rules}
 use Rattle.headers.specs.Block.{Header, printed}
-use Rattle.octets.specs.Copy.{Wrote}
 use Rattle.variables.specs.FixedVariables.{server_variables}
-use Rattle.variables.proofs.Puts.{wrote-length}
 use Rattle.variables.proofs.FixedVariables.{RowsLeft, rows_all, row_room, row_more, row_last}
 use Rattle.variables.proofs.fixed_variables.put_server.Goals as goal
 use Rattle.variables.proofs.fixed_variables.put_server.Goals.{Start}

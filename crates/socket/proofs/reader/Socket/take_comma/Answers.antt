@@ -11,8 +11,7 @@ use Rattle.socket.proofs.reader.Socket.take_comma.Goals.{In-Body}
 -- the body length, where the pattern matched
 got :
     (c : In-Body)
-    → (
-    check_block (take c.args.self.len c.args.block.now) ≡ gives c.in-Body.n)
+    → check_block (take c.args.self.len c.args.block.now) ≡ gives c.in-Body.n
 got c = sym c.check_block-c.ensures ∙ ap checked_outcome c.in-Body.is
 
 pub slice_bounds-check_block-end : goal.slice_bounds-check_block-end
