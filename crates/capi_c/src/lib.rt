@@ -1,7 +1,7 @@
 // The symbols of the C archive, each one call of `capi`, which states what is promised.
 //
-// A crate is a library or a static library, and only a static library exports: so `capi` is the one, for Rattle, and this the other. An export
-// has the name, the parameters and the clauses of the call that it makes. None has a `requires`, since nothing would hold C to it.
+// A crate is a library or a static library, and only a static library exports: so `capi` is the one, for Rattle, and this the other. An
+// export has the name, the parameters and the clauses of the call that it makes. None has a `requires`, since nothing would hold C to it.
 #![tactic(auto)]
 
 ghost use Rattle.std.specs.Prelude.{◌≡◌};

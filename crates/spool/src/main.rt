@@ -126,7 +126,7 @@ fn empty_window() -> [u8; 1114112]
     [0; 1114112]
 }
 
-// A proved loop has to end, and nothing says that the input does: the turns are counted down from a number that no run uses up.
+// A proved loop has to end, and nothing says that the input does: the turns are counted up to a number that no run reaches.
 fn read_spool(rt: &(impl Print + Eprint), input: &mut impl Read) {
     let mut window = empty_window();
     let mut held: usize = 0;
