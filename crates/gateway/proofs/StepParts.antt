@@ -3,7 +3,7 @@
 use Prim.Native.Nat.{ℕ, zero, suc, ◌+◌, ◌-◌, ◌≤◌}
 use mathlib.Core.Path.{◌≡◌, refl, sym, ap, ◌∙◌}
 use mathlib.Core.Bool.{Bool, true, false}
-use mathlib.Core.Option.{Option, none, some}
+use Rattle.std.proofs.Common.{Option, None, Some}
 use mathlib.Core.List.{List, ◌++◌}
 use native.Mathlib.Omega.{arith}
 use lib.Dec.{leb}
@@ -121,8 +121,8 @@ module _ (mounts path : List ℕ) (ms : List Mount) (are : mounts_of mounts ≡ 
   lost k e = by (mount_of ms path) (e ∙ search-wins)
     where
       by : (w : Option Mount) → refused k ≡ then (given w 19) (λ m. gives (place_of m)) → given w 19 ≡ refused k
-      by none q = cc
-      by (some m) q = cc
+      by None q = cc
+      by (Some m) q = cc
 
   pub record Won (n start len most : ℕ) : Type 0 where
     pub wins : mount_for ms path ≡ gives (mount_by path n start len most)

@@ -4,7 +4,7 @@ use Prim.Native.Nat.{ℕ, ◌+◌}
 use Prim.{absurd}
 use mathlib.Core.Path.{◌≡◌, refl, sym, ap, ◌∙◌}
 use mathlib.Core.List.{List, [], ◌∷◌, ◌++◌}
-use mathlib.Core.Option.{Option, none, some}
+use Rattle.std.proofs.Common.{Option, None, Some}
 use native.Mathlib.Nat.{add_assoc}
 use native.Mathlib.Omega.{arith}
 use lib.ListN.{length, drop}
@@ -20,7 +20,7 @@ pub same-header : (h h' : Header) → h.name ≡ h'.name → h.value ≡ h'.valu
 same-header h h' n v =
     ap {B = Header} (λ (x : List ℕ). record { name = x; value = h.value }) n ∙ ap {B = Header} (λ (y : List ℕ). record { name = h'.name; value = y }) v
 
-pub read-printed : (hs : List Header) → All Proper hs → headers_of (printed hs) ≡ some hs
+pub read-printed : (hs : List Header) → All Proper hs → headers_of (printed hs) ≡ Some hs
 unfolding printed paired parted
 read-printed [] p = refl
 read-printed (h ∷ hs) (p & ps) =
@@ -34,16 +34,16 @@ pub record Prints (hs : List Header) (t : List ℕ) : Type 0 where
 
 print-with :
     (h : Header) (o : Option (List Header)) (hs : List Header) (t : List ℕ) → Proper h
-    → ((hs' : List Header) → o ≡ some hs' → Prints hs' t) → with h o ≡ some hs → Prints hs (h.name ++ 0 ∷ (h.value ++ 0 ∷ t))
+    → ((hs' : List Header) → o ≡ Some hs' → Prints hs' t) → with h o ≡ Some hs → Prints hs (h.name ++ 0 ∷ (h.value ++ 0 ∷ t))
 unfolding printed
-print-with h none hs t p ih e = absurd (let z : ◌≡◌ {A = ℕ} 0 1 = cc in omega arith)
-print-with h (some hs') hs t p ih e =
+print-with h None hs t p ih e = absurd (let z : ◌≡◌ {A = ℕ} 0 1 = cc in omega arith)
+print-with h (Some hs') hs t p ih e =
     let z : hs ≡ h ∷ hs' = cc in
     let r = ih hs' refl in
     rw z (record { bytes = rw r.bytes; proper = p & r.proper })
 
 print-paired :
-    (f : List ℕ) (fs : List (List ℕ)) (hs : List Header) → NoNul f → All NoNul fs → paired f fs ≡ some hs → Prints hs (joined_by 0 f fs)
+    (f : List ℕ) (fs : List (List ℕ)) (hs : List Header) → NoNul f → All NoNul fs → paired f fs ≡ Some hs → Prints hs (joined_by 0 f fs)
 unfolding paired printed joined_by
 print-paired [] [] hs n c e =
     let z : hs ≡ [] = cc in
@@ -55,7 +55,7 @@ print-paired (b ∷ f) (v ∷ (g ∷ fs)) hs n (cv & (cg & c)) e =
     print-with (record { name = b ∷ f; value = v }) (paired g fs) hs (joined_by 0 g fs) (record { named = refl; name_bytes = n; value_bytes = cv })
     (λ hs' e'. print-paired g fs hs' cg c e') e
 
-pub printed-read : (s : List ℕ) (hs : List Header) → headers_of s ≡ some hs → Prints hs s
+pub printed-read : (s : List ℕ) (hs : List Header) → headers_of s ≡ Some hs → Prints hs s
 printed-read s hs e =
     let p = parts-of 0 s in
     let r = print-paired (parted 0 s).first (parted 0 s).others hs p.in_first p.in_others e in

@@ -5,7 +5,7 @@ use Prim.{absurd}
 use mathlib.Core.Path.{◌≡◌, refl, sym, ap, ◌∙◌}
 use mathlib.Core.Bool.{Bool, true, false, cond, false≢true}
 use mathlib.Core.List.{List, [], ◌∷◌, ◌++◌}
-use mathlib.Core.Option.{Option, none, some}
+use Rattle.std.proofs.Common.{Option, None, Some}
 use native.Mathlib.Omega.{arith}
 use lib.ListN.{length, take, drop, length-take, length-drop, length-append}
 use lib.Seq.{take-append_seam}
@@ -26,15 +26,15 @@ well : (b : List ℕ) → well_formed b ≡ true → Headed b
 well b e = by (headers_of b) refl e
   where
     by : (o : Option (List Header)) → headers_of b ≡ o → is_some o ≡ true → Headed b
-    by none p t = absurd (false≢true t)
-    by (some hs) p t = record { hs = hs; is = rw p }
+    by None p t = absurd (false≢true t)
+    by (Some hs) p t = record { hs = hs; is = rw p }
 
 well-parsed : (b : List ℕ) (hs : List Header) → parsed b ≡ gives hs → well_formed b ≡ true
 well-parsed b hs e = by (headers_of b) e
   where
     by : (o : Option (List Header)) → given o 5 ≡ gives hs → is_some o ≡ true
-    by none q = cc
-    by (some gs) q = refl
+    by None q = cc
+    by (Some gs) q = refl
 
 pub well-counted : (b : List ℕ) (n : ℕ) → count_of b ≡ gives n → well_formed b ≡ true
 well-counted b n e =
@@ -86,13 +86,13 @@ start b name e =
 -- of equal names the first counts
 pub place-hit :
     (name : List ℕ) (i : ℕ) (h : Header) (hs : List Header) → same_bytes h.name name ≡ true
-    → place_in name i (h ∷ hs) ≡ some (record { start = i + length h.name + 1; len = length h.value })
+    → place_in name i (h ∷ hs) ≡ Some (record { start = i + length h.name + 1; len = length h.value })
 unfolding place_in
-place-hit name i h hs = ap (λ (t : Bool). cond t (some (record { start = i + length h.name + 1; len = length h.value })) (place_in name (i + length h.name + 1 + length h.value + 1) hs))
+place-hit name i h hs = ap (λ (t : Bool). cond t (Some (record { start = i + length h.name + 1; len = length h.value })) (place_in name (i + length h.name + 1 + length h.value + 1) hs))
 
 -- one header: its name ends at n and its value at v
 pub record Turn (b name : List ℕ) (i n v : ℕ) : Type 0 where
-  pub hit : same_bytes (take (n - i) (drop i b)) name ≡ true → lookup_of b name ≡ gives (some (record { start = n + 1; len = v - (n + 1) }))
+  pub hit : same_bytes (take (n - i) (drop i b)) name ≡ true → lookup_of b name ≡ gives (Some (record { start = n + 1; len = v - (n + 1) }))
   pub miss : same_bytes (take (n - i) (drop i b)) name ≡ false → Standing b name (v + 1)
 
 module _ (b name : List ℕ) (i n v : ℕ) where
@@ -116,13 +116,13 @@ module _ {b name : List ℕ} {i : ℕ} (r : Standing b name i) where
       let g = behind-header b i r.hs r.rest n v h in
       turn_at b name i n v g.gs h.order g.rest (r.answer ∙ ap (λ (hs : List Header). gives (place_in name i hs)) g.is)
 
-  pub ended : length b ≤ i → lookup_of b name ≡ gives none
+  pub ended : length b ≤ i → lookup_of b name ≡ gives None
   unfolding place_in
   ended h = r.answer ∙ ap (λ (hs : List Header). gives (place_in name i hs)) (none-behind b i r.hs r.rest h)
 
 -- A value's place is within the block.
 
-fits_in : (name : List ℕ) (hs : List Header) (i : ℕ) (p : Part) → place_in name i hs ≡ some p → p.start + p.len ≤ i + length (printed hs)
+fits_in : (name : List ℕ) (hs : List Header) (i : ℕ) (p : Part) → place_in name i hs ≡ Some p → p.start + p.len ≤ i + length (printed hs)
 unfolding place_in printed
 fits_in name [] i p e =
     let z : ◌≡◌ {A = ℕ} 0 1 = cc in
@@ -133,23 +133,23 @@ fits_in name (h ∷ hs) i p e = by (same_bytes h.name name) refl (fits_in name h
     after = i + length h.name + 1 + length h.value + 1
 
     by :
-        (t : Bool) → same_bytes h.name name ≡ t → (place_in name after hs ≡ some p → p.start + p.len ≤ after + length (printed hs))
+        (t : Bool) → same_bytes h.name name ≡ t → (place_in name after hs ≡ Some p → p.start + p.len ≤ after + length (printed hs))
         → p.start + p.len ≤ i + length (h.name ++ 0 ∷ (h.value ++ 0 ∷ printed hs))
     by true q ih =
-        let e' : some (record { start = i + length h.name + 1; len = length h.value }) ≡ some p = sym (place-hit name i h hs q) ∙ e in
+        let e' : Some (record { start = i + length h.name + 1; len = length h.value }) ≡ Some p = sym (place-hit name i h hs q) ∙ e in
         let s : i + length h.name + 1 ≡ p.start = cc in
         let l : length h.value ≡ p.len = cc in
         simp length-append (omega arith)
     by false q ih =
-        let e' : place_in name after hs ≡ some p = simp q at e in
+        let e' : place_in name after hs ≡ Some p = simp q at e in
         simp length-append (omega (arith, ih e'))
 
-pub place-fits : (b name : List ℕ) (p : Part) → lookup_of b name ≡ gives (some p) → p.start + p.len ≤ length b
+pub place-fits : (b name : List ℕ) (p : Part) → lookup_of b name ≡ gives (Some p) → p.start + p.len ≤ length b
 unfolding lookup_of
 place-fits b name p e =
-    let g = then-gives (parsed b) (λ hs. gives (place_in name 0 hs)) (some p) e in
-    let q : gives (place_in name 0 g.it) ≡ gives (some p) = g.next in
-    let w : place_in name 0 g.it ≡ some p = cc in
+    let g = then-gives (parsed b) (λ hs. gives (place_in name 0 hs)) (Some p) e in
+    let q : gives (place_in name 0 g.it) ≡ gives (Some p) = g.next in
+    let w : place_in name 0 g.it ≡ Some p = cc in
     omega (arith, fits_in name g.it 0 p w, ap length (printed-read b g.it (given-gives (headers_of b) 5 g.it g.first)).bytes)
 
 -- Of two blocks.
@@ -161,10 +161,10 @@ first_fits b c name p e =
     let s = then-gives (lookup_of c name) (λ q. gives (first_found f.it q)) (in_first p) f.next in
     place-fits b name p (f.first ∙ ap gives (by f.it s.it s.next))
   where
-    by : (o q : Option Part) → gives (first_found o q) ≡ gives (in_first p) → o ≡ some p
-    by (some r) q t = cc
-    by none (some r) t = cc
-    by none none t = cc
+    by : (o q : Option Part) → gives (first_found o q) ≡ gives (in_first p) → o ≡ Some p
+    by (Some r) q t = cc
+    by None (Some r) t = cc
+    by None None t = cc
 
 pub second_fits : (b c name : List ℕ) (p : Part) → setting_of b c name ≡ gives (in_second p) → p.start + p.len ≤ length c
 unfolding setting_of
@@ -173,10 +173,10 @@ second_fits b c name p e =
     let s = then-gives (lookup_of c name) (λ q. gives (first_found f.it q)) (in_second p) f.next in
     place-fits c name p (s.first ∙ ap gives (by f.it s.it s.next))
   where
-    by : (o q : Option Part) → gives (first_found o q) ≡ gives (in_second p) → q ≡ some p
-    by (some r) q t = cc
-    by none (some r) t = cc
-    by none none t = cc
+    by : (o q : Option Part) → gives (first_found o q) ≡ gives (in_second p) → q ≡ Some p
+    by (Some r) q t = cc
+    by None (Some r) t = cc
+    by None None t = cc
 
 -- The part at the place is the value.
 
@@ -187,9 +187,9 @@ value-at name b (h ∷ hs) i e = by (same_bytes h.name name) (value-at name b hs
   where
     by :
         (t : Bool) → part_option b (place_in name (i + length h.name + 1 + length h.value + 1) hs) ≡ value_in name hs
-        → part_option b (cond t (some (record { start = i + length h.name + 1; len = length h.value })) (place_in name (i + length h.name + 1 + length h.value + 1) hs))
-        ≡ cond t (some h.value) (value_in name hs)
-    by true ih = ap some (ap (take (length h.value)) (behind-name b i h hs e) ∙ take-append_seam h.value (0 ∷ printed hs))
+        → part_option b (cond t (Some (record { start = i + length h.name + 1; len = length h.value })) (place_in name (i + length h.name + 1 + length h.value + 1) hs))
+        ≡ cond t (Some h.value) (value_in name hs)
+    by true ih = ap Some (ap (take (length h.value)) (behind-name b i h hs e) ∙ take-append_seam h.value (0 ∷ printed hs))
     by false ih = ih
 
 -- the value among the headers, by the place

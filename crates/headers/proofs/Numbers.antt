@@ -3,7 +3,7 @@
 use Prim.Native.Nat.{ℕ}
 use mathlib.Core.Path.{◌≡◌}
 use mathlib.Core.List.{List}
-use mathlib.Core.Option.{Option, none, some}
+use Rattle.std.proofs.Common.{Option, None, Some}
 use Rattle.octets.specs.Outcome.{Outcome, refused, gives, then, given}
 use Rattle.headers.specs.Block.{Header, headers_of}
 use Rattle.headers.specs.Lookup.{Part, place_in, lookup_of}
@@ -15,8 +15,8 @@ unfolding lookup_of
 lookup-five block name n e = by (headers_of block) e
   where
     by : (o : Option (List Header)) → then (given o 5) (λ hs. gives (place_in name 0 hs)) ≡ refused n → n ≡ 5
-    by none e = cc
-    by (some hs) e = cc
+    by None e = cc
+    by (Some hs) e = cc
 
 setting-five : (first second name : List ℕ) (n : ℕ) → setting_of first second name ≡ refused n → n ≡ 5
 unfolding setting_of

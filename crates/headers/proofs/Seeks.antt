@@ -5,7 +5,7 @@ use Prim.{absurd}
 use mathlib.Core.Path.{◌≡◌, refl, sym, ap, ◌∙◌}
 use mathlib.Core.Bool.{true, false}
 use mathlib.Core.List.{List, [], ◌∷◌, ◌++◌}
-use mathlib.Core.Option.{none, some}
+use Rattle.std.proofs.Common.{None, Some}
 use native.Mathlib.Omega.{arith}
 use lib.ListN.{length, drop, get_or}
 use borrow.Author.Tests.{eq-eqb, ne_eqb}
@@ -70,7 +70,7 @@ pub record Turn (b ps name : List ℕ) (n k : ℕ) : Type 0 where
   pub inside : value_start ps k ≤ length b
   pub hit :
       same_bytes (name_at b ps k) name ≡ true → (v : ℕ) → v ≡ value_start ps k + run (other 0) (drop (value_start ps k) b)
-      → lookup_of b name ≡ gives (some (record { start = value_start ps k; len = v - value_start ps k }))
+      → lookup_of b name ≡ gives (Some (record { start = value_start ps k; len = v - value_start ps k }))
   pub miss : same_bytes (name_at b ps k) name ≡ false → Left b ps name n (k + 1)
 
 module _
@@ -123,10 +123,10 @@ module _ {b ps name : List ℕ} {n k : ℕ} (r : Left b ps name n k) where
       by [] c p e d a = absurd (omega arith)
       by (g ∷ hs) c (p & q) e d a = turn_at b ps name n k r.i g hs r.t r.begins e d a p q c r.room
 
-  pub ended : n ≤ k → lookup_of b name ≡ gives none
+  pub ended : n ≤ k → lookup_of b name ≡ gives None
   unfolding place_in
   ended h = by r.hs r.count r.answer
     where
-      by : (hs : List Header) → k + length hs ≡ n → lookup_of b name ≡ gives (place_in name r.i hs) → lookup_of b name ≡ gives none
+      by : (hs : List Header) → k + length hs ≡ n → lookup_of b name ≡ gives (place_in name r.i hs) → lookup_of b name ≡ gives None
       by [] c a = a
       by (g ∷ hs) c a = absurd (omega arith)

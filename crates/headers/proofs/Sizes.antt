@@ -4,7 +4,7 @@ use Prim.Native.Nat.{ℕ, ◌+◌, ◌≤◌}
 use mathlib.Core.Path.{◌≡◌, refl, ap}
 use mathlib.Core.Bool.{Bool, true, false, cond, not, ◌||◌}
 use mathlib.Core.List.{List, [], ◌∷◌}
-use mathlib.Core.Option.{some}
+use Rattle.std.proofs.Common.{Some}
 use native.Mathlib.Omega.{arith}
 use lib.ListN.{length, length-append}
 use borrow.Author.Tests.{not-true}
@@ -29,7 +29,7 @@ one_more h hs (n ∷ ns) d = by (same_bytes h.name n) refl (is_in h.name ns) ref
   where
     by :
         (t : Bool) → same_bytes h.name n ≡ t → (u : Bool) → is_in h.name ns ≡ u → sizes_of ns (h ∷ hs) ≤ cond u (header_size h) 0 + sizes_of ns hs
-        → size_of n (cond t (some h.value) (value_in n hs)) + sizes_of ns (h ∷ hs) ≤ cond (t || u) (header_size h) 0 + (size_of n (value_in n hs) + sizes_of ns hs)
+        → size_of n (cond t (Some h.value) (value_in n hs)) + sizes_of ns (h ∷ hs) ≤ cond (t || u) (header_size h) 0 + (size_of n (value_in n hs) + sizes_of ns hs)
     by true e true f ih =
         let z : h.name ≡ n = same_true h.name n e in
         let y : is_in n ns ≡ false = not-true (is_in n ns) (and_left (not (is_in n ns)) (different ns) d) in

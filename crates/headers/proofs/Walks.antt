@@ -5,7 +5,7 @@ use Prim.{absurd}
 use mathlib.Core.Path.{◌≡◌, refl, sym, ap, ◌∙◌}
 use mathlib.Core.Bool.{Bool, true, false, not, ◌&&◌}
 use mathlib.Core.List.{List, [], ◌∷◌}
-use mathlib.Core.Option.{Option, none, some}
+use Rattle.std.proofs.Common.{Option, None, Some}
 use native.Mathlib.Omega.{arith}
 use lib.Dec.{eqb, ltb}
 use lib.ListN.{length, take, drop, length-take, length-drop, drop_of_length-le}
@@ -22,12 +22,12 @@ use Rattle.headers.specs.Claims.{HeaderParses}
 
 -- What a list that is not empty begins with: its first NUL stands at n, t is what follows, whose first NUL stands at v.
 
-nil-name : (f : List ℕ) (fs : List (List ℕ)) → paired [] (f ∷ fs) ≡ none
+nil-name : (f : List ℕ) (fs : List (List ℕ)) → paired [] (f ∷ fs) ≡ None
 unfolding paired
 nil-name f [] = refl
 nil-name f (g ∷ fs) = refl
 
-one-part : (n v : List ℕ) → paired n (v ∷ []) ≡ none
+one-part : (n v : List ℕ) → paired n (v ∷ []) ≡ None
 unfolding paired
 one-part n v = refl
 
@@ -36,7 +36,7 @@ unfolding paired
 two-parts [] v f fs h = absurd (omega arith)
 two-parts (b ∷ n) v f fs h = refl
 
-no_nul : (s : List ℕ) → 0 < length s → length s ≤ run (other 0) s → headers_of s ≡ none
+no_nul : (s : List ℕ) → 0 < length s → length s ≤ run (other 0) s → headers_of s ≡ None
 unfolding paired
 no_nul [] p h = absurd (omega arith)
 no_nul (b ∷ s) p h = rw (part_none 0 (b ∷ s) h)
@@ -45,10 +45,10 @@ module _ (s : List ℕ) (n : ℕ) (en : n ≡ run (other 0) s) (h : n < length s
   found : parted 0 s ≡ before (take n s) (parted 0 (drop (n + 1) s))
   found = rw en (part-found 0 s (rw (← en) h))
 
-  no_name : n ≡ 0 → headers_of s ≡ none
+  no_name : n ≡ 0 → headers_of s ≡ None
   no_name z = rw (found, z) (nil-name (parted 0 (drop (0 + 1) s)).first (parted 0 (drop (0 + 1) s)).others)
 
-  no_value : length (drop (n + 1) s) ≤ run (other 0) (drop (n + 1) s) → headers_of s ≡ none
+  no_value : length (drop (n + 1) s) ≤ run (other 0) (drop (n + 1) s) → headers_of s ≡ None
   no_value v = rw (found, part_none 0 (drop (n + 1) s) v) (one-part (take n s) (drop (n + 1) s))
 
   whole :
@@ -63,8 +63,8 @@ module _ (s : List ℕ) (n : ℕ) (en : n ≡ run (other 0) s) (h : n < length s
       (simp length-take (omega arith)))
 
 with-given : (h : Header) (o : Option (List Header)) → given (with h o) 5 ≡ then (given o 5) (λ hs. gives (h ∷ hs))
-with-given h none = refl
-with-given h (some hs) = refl
+with-given h None = refl
+with-given h (Some hs) = refl
 
 -- The same at i of a block b, with the places that the code has: the name ends at n, the value at v.
 

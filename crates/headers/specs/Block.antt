@@ -1,7 +1,6 @@
 -- A block: its headers, how they are written, and how they are parted again.
 -- Assumes nothing.
-use Rattle.std.specs.Prelude.{ℕ, ◌+◌, ◌-◌, ◌<◌, ◌≡◌, Bool, true, false, cond, not, ◌&&◌, List, [], ◌∷◌, ◌++◌, map, eqb, ltb, length, take, drop}
-use Rattle.std.proofs.Math.Option.{Option, none, some}
+use Rattle.std.specs.Prelude.{ℕ, ◌+◌, ◌-◌, ◌<◌, ◌≡◌, Bool, true, false, cond, not, ◌&&◌, List, [], ◌∷◌, ◌++◌, map, eqb, ltb, length, take, drop, Option, None, Some}
 use Rattle.octets.specs.Outcome.{Outcome, refused, gives, then, need, given}
 use Rattle.octets.specs.Lists.{NoNul, is_nil}
 use Rattle.octets.specs.Parts.{parted}
@@ -38,14 +37,14 @@ printed (h ∷ hs) = h.name ++ 0 ∷ (h.value ++ 0 ∷ printed hs)
 
 -- a header before those that follow it, if they are headers
 abbrev pub with : Header → Option (List Header) → Option (List Header)
-with h none = none
-with h (some hs) = some (h ∷ hs)
+with h None = None
+with h (Some hs) = Some (h ∷ hs)
 
 -- what NULs part, taken two by two, nothing after the last NUL: "names are not empty, values may be"
 unfoldable pub paired : List ℕ → List (List ℕ) → Option (List Header)
-paired f [] = cond (is_nil f) (some []) none
-paired n (v ∷ []) = none
-paired n (v ∷ (f ∷ fs)) = cond (is_nil n) none (with (record { name = n; value = v }) (paired f fs))
+paired f [] = cond (is_nil f) (Some []) None
+paired n (v ∷ []) = None
+paired n (v ∷ (f ∷ fs)) = cond (is_nil n) None (with (record { name = n; value = v }) (paired f fs))
 
 -- the headers of a block, or none where it is malformed: "A block is zero or more of: name, NUL, value, NUL"
 abbrev pub headers_of : List ℕ → Option (List Header)
@@ -56,8 +55,8 @@ abbrev pub parsed : List ℕ → Outcome (List Header)
 parsed s = given (headers_of s) 5
 
 abbrev pub is_some : Option (List Header) → Bool
-is_some none = false
-is_some (some hs) = true
+is_some None = false
+is_some (Some hs) = true
 
 abbrev pub well_formed : List ℕ → Bool
 well_formed s = is_some (headers_of s)

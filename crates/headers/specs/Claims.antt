@@ -1,7 +1,6 @@
 -- What is claimed of blocks of headers and of looking names up in them.
 -- Assumes nothing.
-use Rattle.std.specs.Prelude.{ℕ, ◌+◌, ◌*◌, ◌≤◌, ◌<◌, ◌≡◌, true, ◌↔◌, List, length}
-use Rattle.std.proofs.Math.Option.{Option, some}
+use Rattle.std.specs.Prelude.{ℕ, ◌+◌, ◌*◌, ◌≤◌, ◌<◌, ◌≡◌, true, ◌↔◌, List, length, Option, Some}
 use Rattle.octets.specs.Outcome.{refused, gives}
 use Rattle.octets.specs.Lists.{All, different}
 use Rattle.headers.specs.Block.{Header, Proper, printed, parsed, well_formed, count_of, header_ends, HeaderFound}
@@ -59,7 +58,7 @@ NamesHeld =
 
 -- a place that is given lies in its block
 pub record PlacesInside : Type 0 where
-  pub of_one : (block name : List ℕ) (p : Part) → lookup_of block name ≡ gives (some p) → p.start + p.len ≤ length block
+  pub of_one : (block name : List ℕ) (p : Part) → lookup_of block name ≡ gives (Some p) → p.start + p.len ≤ length block
   pub of_first : (first second name : List ℕ) (p : Part) → setting_of first second name ≡ gives (in_first p) → p.start + p.len ≤ length first
   pub of_second : (first second name : List ℕ) (p : Part) → setting_of first second name ≡ gives (in_second p) → p.start + p.len ≤ length second
 

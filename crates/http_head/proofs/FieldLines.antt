@@ -3,7 +3,7 @@
 use mathlib.Core.Path.{◌≡◌, refl, sym, ap, ◌∙◌}
 use mathlib.Core.Bool.{Bool, true, false, cond, ◌&&◌, ◌||◌, and-false}
 use mathlib.Core.List.{List, [], ◌∷◌}
-use mathlib.Core.Option.{Option, none, some}
+use Rattle.std.proofs.Common.{Option, None, Some}
 use Prim.Native.Nat.{ℕ, zero, suc, ◌+◌, ◌≤◌, ◌<◌}
 use native.Mathlib.Omega.{arith}
 use lib.Dec.{leb, ltb, eqb}
@@ -30,17 +30,17 @@ module _ (rule : ℕ → Bool) (line : List ℕ) (n : ℕ) (colon : n ≡ 0 + ru
       let e : run (other 58) line ≡ n = omega arith in
       ap (field_with rule line) e
 
-  pub no-colon : length line ≤ n → field_of rule line ≡ none
+  pub no-colon : length line ≤ n → field_of rule line ≡ None
   no-colon h = at-colon ∙ simp (le-ltb n (length line) h)
 
-  pub no_name : n ≡ 0 → field_of rule line ≡ none
+  pub no_name : n ≡ 0 → field_of rule line ≡ None
   no_name h = at-colon ∙ rw h (simp and-false)
 
   module _ (l : n < length line) where
     name-test : all_of rule (take n line) ≡ leb n (run rule line)
     name-test = all_take rule line n (omega arith)
 
-    pub bad-name : (j : ℕ) → j ≡ 0 + run rule (drop 0 line) → j < n → field_of rule line ≡ none
+    pub bad-name : (j : ℕ) → j ≡ 0 + run rule (drop 0 line) → j < n → field_of rule line ≡ None
     bad-name j e h = at-colon ∙ simp (name-test, lt-leb n (run rule line) (omega arith), and-false)
 
     -- .. and the value begins at v and has k bytes
@@ -53,12 +53,12 @@ module _ (rule : ℕ → Bool) (line : List ℕ) (n : ℕ) (colon : n ≡ 0 + ru
       value-test : all_of is_value (take k (drop v line)) ≡ leb k (run is_value (drop v line))
       value-test = all_take is_value (drop v line) k (omega (arith, kept-le (drop v line)))
 
-      pub bad-value : (e : ℕ) → e ≡ v + run is_value (drop v line) → e < v + k → field_of rule line ≡ none
+      pub bad-value : (e : ℕ) → e ≡ v + run is_value (drop v line) → e < v + k → field_of rule line ≡ None
       bad-value e q h = at-colon ∙ simp (value_is, value-test, lt-leb k (run is_value (drop v line)) (omega arith), and-false)
 
       there :
           (n ≡ 0 → ⊥) → n ≤ 0 + run rule (drop 0 line) → v + k ≤ v + run is_value (drop v line)
-          → field_of rule line ≡ some (record { name = take n line; value = take k (drop v line) })
+          → field_of rule line ≡ Some (record { name = take n line; value = take k (drop v line) })
       there z a b =
           let m : 0 < length (take n line) = simp length-take (omega arith) in
           at-colon
@@ -66,7 +66,7 @@ module _ (rule : ℕ → Bool) (line : List ℕ) (n : ℕ) (colon : n ≡ 0 + ru
 
       pub whole :
           (n ≡ 0 → ⊥) → n ≤ 0 + run rule (drop 0 line) → v + k ≤ v + run is_value (drop v line)
-          → numbers_of rule line ≡ some (record { name = n; value = v; len = k })
+          → numbers_of rule line ≡ Some (record { name = n; value = v; len = k })
       whole z a b =
           let e : name_length line ≡ n = omega arith in
           let y : length (take k (drop v line)) ≡ k = length-take-le k (drop v line) (omega (arith, kept-le (drop v line))) in
@@ -74,7 +74,7 @@ module _ (rule : ℕ → Bool) (line : List ℕ) (n : ℕ) (colon : n ≡ 0 + ru
           rw (there z a b, s, e, value_is, y)
 
 -- "A line that begins with space or tab is refused"
-first_byte : (rule : ℕ → Bool) (b : ℕ) (s : List ℕ) (n : ℕ) → rule b ≡ false → field_with rule (b ∷ s) n ≡ none
+first_byte : (rule : ℕ → Bool) (b : ℕ) (s : List ℕ) (n : ℕ) → rule b ≡ false → field_with rule (b ∷ s) n ≡ None
 unfolding all_of
 first_byte rule b s zero e = simp and-false
 first_byte rule b s (suc n) e = simp (e, and-false)
@@ -89,11 +89,11 @@ blank-token b = by (eqb b 32) (eqb b 9) refl refl
     by false false p q e = cc
 
 module _ (b : ℕ) (s : List ℕ) (blank : is_blank b ≡ true) where
-  pub blank-first : field_of is_token (b ∷ s) ≡ none
+  pub blank-first : field_of is_token (b ∷ s) ≡ None
   unfolding field_of
   blank-first = first_byte is_token b s (run (other 58) (b ∷ s)) (blank-token b blank)
 
-  pub blank-first-name : field_of is_name (b ∷ s) ≡ none
+  pub blank-first-name : field_of is_name (b ∷ s) ≡ None
   unfolding field_of is_name
   blank-first-name = first_byte is_name b s (run (other 58) (b ∷ s)) (rw (blank-token b blank))
 
@@ -105,18 +105,18 @@ record Passes (rule : ℕ → Bool) (line : List ℕ) (n : ℕ) (f : Field) : Ty
   name : is_field_name rule (take n line) ≡ true
   value : all_of is_value (trimmed (drop (n + 1) line)) ≡ true
 
-passes : (rule : ℕ → Bool) (line : List ℕ) (n : ℕ) (f : Field) → field_with rule line n ≡ some f → Passes rule line n f
+passes : (rule : ℕ → Bool) (line : List ℕ) (n : ℕ) (f : Field) → field_with rule line n ≡ Some f → Passes rule line n f
 passes rule line n f = by (ltb n (length line)) (is_field_name rule (take n line)) (all_of is_value (trimmed (drop (n + 1) line))) refl refl refl
   where
     by :
         (a b c : Bool) → ltb n (length line) ≡ a → is_field_name rule (take n line) ≡ b → all_of is_value (trimmed (drop (n + 1) line)) ≡ c
-        → cond (a && b && c) (some (record { name = take n line; value = trimmed (drop (n + 1) line) })) none ≡ some f → Passes rule line n f
+        → cond (a && b && c) (Some (record { name = take n line; value = trimmed (drop (n + 1) line) })) None ≡ Some f → Passes rule line n f
     by true true true l p q e = record { is = cc; colon = ltb-true n (length line) l; name = p; value = q }
     by true true false l p q e = absurd (let z : ◌≡◌ {A = ℕ} 0 1 = cc in omega arith)
     by true false c l p q e = absurd (let z : ◌≡◌ {A = ℕ} 0 1 = cc in omega arith)
     by false b c l p q e = absurd (let z : ◌≡◌ {A = ℕ} 0 1 = cc in omega arith)
 
-module _ (rule : ℕ → Bool) (line : List ℕ) (f : Field) (e : field_of rule line ≡ some f) where
+module _ (rule : ℕ → Bool) (line : List ℕ) (f : Field) (e : field_of rule line ≡ Some f) where
   passed : Passes rule line (name_length line) f
   unfolding field_of
   passed = passes rule line (name_length line) f e
@@ -156,21 +156,21 @@ module _ (rule : ℕ → Bool) (line : List ℕ) (f : Field) (e : field_of rule 
 
 -- FIELDS OF LINES
 
-each-clean : (rule : ℕ → Bool) (ls : List (List ℕ)) (fs : List Field) → each_field rule ls ≡ some fs → All (Clean rule) fs
+each-clean : (rule : ℕ → Bool) (ls : List (List ℕ)) (fs : List Field) → each_field rule ls ≡ Some fs → All (Clean rule) fs
 unfolding each_field
 each-clean rule [] fs e = let z : fs ≡ [] = cc in rw z no_more
 each-clean rule (l ∷ ls) fs e = by (field_of rule l) (each_field rule ls) refl refl (each-clean rule ls) e
   where
     by :
         (f : Option Field) (o : Option (List Field)) → field_of rule l ≡ f → each_field rule ls ≡ o
-        → ((gs : List Field) → each_field rule ls ≡ some gs → All (Clean rule) gs) → ahead f o ≡ some fs → All (Clean rule) fs
-    by none o p q ih e = absurd (let z : ◌≡◌ {A = ℕ} 0 1 = cc in omega arith)
-    by (some f) none p q ih e = absurd (let z : ◌≡◌ {A = ℕ} 0 1 = cc in omega arith)
-    by (some f) (some gs) p q ih e = let z : fs ≡ f ∷ gs = cc in rw z (field-clean rule l f p & ih gs q)
+        → ((gs : List Field) → each_field rule ls ≡ Some gs → All (Clean rule) gs) → ahead f o ≡ Some fs → All (Clean rule) fs
+    by None o p q ih e = absurd (let z : ◌≡◌ {A = ℕ} 0 1 = cc in omega arith)
+    by (Some f) None p q ih e = absurd (let z : ◌≡◌ {A = ℕ} 0 1 = cc in omega arith)
+    by (Some f) (Some gs) p q ih e = let z : fs ≡ f ∷ gs = cc in rw z (field-clean rule l f p & ih gs q)
 
 pub fields-clean : (rule : ℕ → Bool) (ls : List (List ℕ)) (fs : List Field) → fields_of rule ls ≡ gives fs → All (Clean rule) fs
 fields-clean rule ls fs e = by (leb (length ls) 64) (given-gives (fields_in 64 rule ls) 15 fs e)
   where
-    by : (t : Bool) → cond t (each_field rule ls) none ≡ some fs → All (Clean rule) fs
+    by : (t : Bool) → cond t (each_field rule ls) None ≡ Some fs → All (Clean rule) fs
     by true q = each-clean rule ls fs q
     by false q = absurd (let z : ◌≡◌ {A = ℕ} 0 1 = cc in omega arith)

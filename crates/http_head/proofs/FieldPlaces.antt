@@ -3,7 +3,7 @@
 use mathlib.Core.Path.{◌≡◌, refl, sym, ap, ◌∙◌}
 use mathlib.Core.Bool.{Bool, true, false, cond}
 use mathlib.Core.List.{List, [], ◌∷◌, ◌++◌}
-use mathlib.Core.Option.{Option, none, some}
+use Rattle.std.proofs.Common.{Option, None, Some}
 use Prim.Native.Nat.{ℕ, zero, suc, ◌+◌, ◌-◌, ◌*◌, ◌≤◌, ◌<◌}
 use native.Mathlib.Nat.{add-zero, zero-add}
 use native.Mathlib.Omega.{arith}
@@ -128,7 +128,7 @@ module _ (rule : ℕ → Bool) (head ps tail : List ℕ) where
 
   there :
       (at : ℕ) (ls : List (List ℕ)) → LinesIn head at ls → (k : ℕ) → drop (4 * k) ps ≡ places_from at ls ++ tail
-      → (fs : List Field) → each_field rule ls ≡ some fs → FieldsThere head ps k (length ls) fs
+      → (fs : List Field) → each_field rule ls ≡ Some fs → FieldsThere head ps k (length ls) fs
   unfolding each_field fields_at places_from
   there at [] no_line k e fs q = record { fields = cc; inside = λ j h. absurd (omega arith) }
   there at (l ∷ ls) (one_line b is rest) k e fs q =
@@ -139,11 +139,11 @@ module _ (rule : ℕ → Bool) (head ps tail : List ℕ) where
     where
       by :
           (o : Option Field) (p : Option (List Field)) → field_of rule l ≡ o → each_field rule ls ≡ p
-          → ((gs : List Field) → each_field rule ls ≡ some gs → FieldsThere head ps (k + 1) (length ls) gs) → ahead o p ≡ some fs
+          → ((gs : List Field) → each_field rule ls ≡ Some gs → FieldsThere head ps (k + 1) (length ls) gs) → ahead o p ≡ Some fs
           → FieldsThere head ps k (suc (length ls)) fs
-      by none p x y ih r = absurd (let z : ◌≡◌ {A = ℕ} 0 1 = cc in omega arith)
-      by (some f) none x y ih r = absurd (let z : ◌≡◌ {A = ℕ} 0 1 = cc in omega arith)
-      by (some f) (some gs) x y ih r =
+      by None p x y ih r = absurd (let z : ◌≡◌ {A = ℕ} 0 1 = cc in omega arith)
+      by (Some f) None x y ih r = absurd (let z : ◌≡◌ {A = ℕ} 0 1 = cc in omega arith)
+      by (Some f) (Some gs) x y ih r =
           let st = field-stands rule l f x in
           let z : fs ≡ f ∷ gs = cc in
           let g = ih gs y in
@@ -155,26 +155,26 @@ module _ (rule : ℕ → Bool) (head ps tail : List ℕ) where
 
 -- FIELDS ARE AT MOST 64
 
-each-length : (rule : ℕ → Bool) (ls : List (List ℕ)) (fs : List Field) → each_field rule ls ≡ some fs → length fs ≡ length ls
+each-length : (rule : ℕ → Bool) (ls : List (List ℕ)) (fs : List Field) → each_field rule ls ≡ Some fs → length fs ≡ length ls
 unfolding each_field
 each-length rule [] fs e = let z : fs ≡ [] = cc in rw z
 each-length rule (l ∷ ls) fs e = by (field_of rule l) (each_field rule ls) refl (each-length rule ls) e
   where
     by :
-        (f : Option Field) (o : Option (List Field)) → each_field rule ls ≡ o → ((gs : List Field) → each_field rule ls ≡ some gs → length gs ≡ length ls)
-        → ahead f o ≡ some fs → length fs ≡ suc (length ls)
-    by none o q ih e = let z : ◌≡◌ {A = ℕ} 0 1 = cc in omega arith
-    by (some f) none q ih e = let z : ◌≡◌ {A = ℕ} 0 1 = cc in omega arith
-    by (some f) (some gs) q ih e = let z : fs ≡ f ∷ gs = cc in rw z (ap suc (ih gs q))
+        (f : Option Field) (o : Option (List Field)) → each_field rule ls ≡ o → ((gs : List Field) → each_field rule ls ≡ Some gs → length gs ≡ length ls)
+        → ahead f o ≡ Some fs → length fs ≡ suc (length ls)
+    by None o q ih e = let z : ◌≡◌ {A = ℕ} 0 1 = cc in omega arith
+    by (Some f) None q ih e = let z : ◌≡◌ {A = ℕ} 0 1 = cc in omega arith
+    by (Some f) (Some gs) q ih e = let z : fs ≡ f ∷ gs = cc in rw z (ap suc (ih gs q))
 
 record Each (rule : ℕ → Bool) (lines : List (List ℕ)) (fs : List Field) : Type 0 where
-  each : each_field rule lines ≡ some fs
+  each : each_field rule lines ≡ Some fs
   few : length lines ≤ 64
 
 each_of : (rule : ℕ → Bool) (lines : List (List ℕ)) (fs : List Field) → fields_of rule lines ≡ gives fs → Each rule lines fs
 each_of rule lines fs e = by (leb (length lines) 64) refl (given-gives (fields_in 64 rule lines) 15 fs e)
   where
-    by : (t : Bool) → leb (length lines) 64 ≡ t → cond t (each_field rule lines) none ≡ some fs → Each rule lines fs
+    by : (t : Bool) → leb (length lines) 64 ≡ t → cond t (each_field rule lines) None ≡ Some fs → Each rule lines fs
     by true q f = record { each = f; few = leb-true (length lines) 64 q }
     by false q f = absurd (let z : ◌≡◌ {A = ℕ} 0 1 = cc in omega arith)
 

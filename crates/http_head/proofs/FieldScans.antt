@@ -3,7 +3,7 @@
 use mathlib.Core.Path.{◌≡◌, refl, sym, ap, ◌∙◌}
 use mathlib.Core.Bool.{Bool, true, false, cond, not, ◌&&◌, ◌||◌, and-false}
 use mathlib.Core.List.{List, [], ◌∷◌}
-use mathlib.Core.Option.{Option, none, some}
+use Rattle.std.proofs.Common.{Option, None, Some}
 use Prim.Native.Nat.{ℕ, zero, suc, ◌+◌, ◌-◌, ◌≤◌, ◌<◌}
 use native.Mathlib.Nat.{le_refl}
 use native.Mathlib.Omega.{arith}
@@ -155,10 +155,10 @@ module _ (s : List ℕ) where
   name-run = run_take is_name s (line_run s) (run-line is_name name-cr s)
 
   -- the run of a name's bytes ends at no colon
-  no_field : (run is_name s < length s → get_or s (run is_name s) 0 ≡ 58 → ⊥) → field_of is_name line ≡ none
+  no_field : (run is_name s < length s → get_or s (run is_name s) 0 ≡ 58 → ⊥) → field_of is_name line ≡ None
   no_field h = by (leb (length line) (run (other 58) line)) refl
     where
-      by : (t : Bool) → leb (length line) (run (other 58) line) ≡ t → field_of is_name line ≡ none
+      by : (t : Bool) → leb (length line) (run (other 58) line) ≡ t → field_of is_name line ≡ None
       by true e = no-colon is_name line (run (other 58) line) (omega arith) (leb-true _ _ e)
       by false e =
           let i : run (other 58) line < length line = leb-false _ _ e in
@@ -205,7 +205,7 @@ module _ (s : List ℕ) where
     value-length : value_length line ≡ length (trimmed (take (line_run rest) rest))
     value-length = ap (λ (m : ℕ). length (trimmed (drop (m + 1) line))) name-length ∙ ap (λ (t : List ℕ). length (trimmed t)) after-name
 
-    empty_name : n ≡ 0 → field_of is_name line ≡ none
+    empty_name : n ≡ 0 → field_of is_name line ≡ None
     empty_name z = at-colon ∙ rw z (simp and-false)
 
     module _ (z : n ≡ 0 → ⊥) where
@@ -222,7 +222,7 @@ module _ (s : List ℕ) where
 
       by_value :
           field_of is_name line
-          ≡ cond (leb (line_run rest) (run is_value rest)) (some (record { name = take n s; value = trimmed (take (line_run rest) rest) })) none
+          ≡ cond (leb (line_run rest) (run is_value rest)) (Some (record { name = take n s; value = trimmed (take (line_run rest) rest) })) None
       by_value =
           at-colon ∙ rw (name_is, after-name, value-test, name-test, lt-ltb n (length line) (omega (arith, line-length, line-past)))
 
@@ -232,7 +232,7 @@ module _ (head : List ℕ) (start c : ℕ) (l : start ≤ length head) (name : c
   byte : get_or (drop start head) (run is_name (drop start head)) 0 ≡ get_or head c 0
   byte = get_or-drop start head (run is_name (drop start head)) 0 ∙ ap (λ (k : ℕ). get_or head k 0) (sym name)
 
-  malformed : field_of is_name (lines_of (drop start head)).first ≡ none → Malformed ≡ place_of is_name head start
+  malformed : field_of is_name (lines_of (drop start head)).first ≡ None → Malformed ≡ place_of is_name head start
   malformed e = sym (ap (λ (o : Option Field). place_if o start (lines_of (drop start head)).first) e)
 
   pub colonless : (c < length head → get_or head c 0 ≡ 58 → ⊥) → Malformed ≡ place_of is_name head start
@@ -267,7 +267,7 @@ module _ (head : List ℕ) (start c : ℕ) (l : start ≤ length head) (name : c
     module _ (z : c ≡ start → ⊥) (e : ℕ) (value : e ≡ c + 1 + run is_value (drop (c + 1) head)) where
       field_is :
           field_of is_name (lines_of (drop start head)).first
-          ≡ cond (leb (line_run after) (run is_value after)) (some (record { name = take (c - start) (drop start head); value = trimmed (take (line_run after) after) })) none
+          ≡ cond (leb (line_run after) (run is_value after)) (Some (record { name = take (c - start) (drop start head); value = trimmed (take (line_run after) after) })) None
       field_is =
           let n : run is_name (drop start head) ≡ c - start = omega arith in
           ap (field_of is_name) (first-line (drop start head))
@@ -305,7 +305,7 @@ module _ (head : List ℕ) (start c : ℕ) (l : start ≤ length head) (name : c
               let m : line_run after - run is_blank after ≡ e - v = omega (arith, whole) in
               value-part after (line_run after) blanks (line-le after) ∙ rw (d, m) (ap (λ (k : ℕ). take k (drop v head)) (sym stays))
 
-          field-there : field_of is_name (line (drop start head)) ≡ some (record { name = take (c - start) (drop start head); value = take k (drop v head) })
+          field-there : field_of is_name (line (drop start head)) ≡ Some (record { name = take (c - start) (drop start head); value = take k (drop v head) })
           field-there =
               sym (ap (field_of is_name) (first-line (drop start head))) ∙ field_is
               ∙ rw (le-leb (line_run after) (run is_value after) (omega (arith, whole)), value_there)

@@ -3,7 +3,7 @@
 use mathlib.Core.Path.{◌≡◌, refl, sym, ap, ◌∙◌}
 use mathlib.Core.Bool.{Bool, true, false, cond, ◌&&◌, ◌||◌, and-false}
 use mathlib.Core.List.{List, [], ◌∷◌, ◌++◌}
-use mathlib.Core.Option.{Option, none, some}
+use Rattle.std.proofs.Common.{Option, None, Some}
 use Prim.Native.Nat.{ℕ, suc, ◌+◌, ◌-◌, ◌≤◌, ◌<◌}
 use native.Mathlib.Nat.{add-zero}
 use native.Mathlib.Omega.{arith}
@@ -30,7 +30,7 @@ unfolding head_of
 over-limit s h = rw (le-leb 8192 (length s) h)
 
 -- fewer than four bytes
-short : (i : ℕ) (s : List ℕ) → length s ≤ 3 → end_from i s ≡ none
+short : (i : ℕ) (s : List ℕ) → length s ≤ 3 → end_from i s ≡ None
 unfolding end_from
 short i [] h = refl
 short i (a ∷ []) h = simp and-false
@@ -38,7 +38,7 @@ short i (a ∷ (b ∷ [])) h = simp and-false
 short i (a ∷ (b ∷ (c ∷ []))) h = simp and-false
 short i (a ∷ (b ∷ (c ∷ (d ∷ s)))) h = absurd (omega arith)
 
-pub end_none : (s : List ℕ) (i : ℕ) → length s ≤ i + 3 → end_from i (drop i s) ≡ none
+pub end_none : (s : List ℕ) (i : ℕ) → length s ≤ i + 3 → end_from i (drop i s) ≡ None
 end_none s i h = short i (drop i s) (simp length-drop (omega arith))
 
 module _ (s : List ℕ) where
@@ -50,19 +50,19 @@ module _ (s : List ℕ) where
       → ends_head (drop i s) ≡ eqb (get_or s i 0) 13 && eqb (get_or s (i + 1) 0) 10 && eqb (get_or s (i + 2) 0) 13 && eqb (get_or s (i + 3) 0) 10
   ends_at i = rw (byte i 0 i (add-zero i), byte i 1 (i + 1) refl, byte i 2 (i + 2) refl, byte i 3 (i + 3) refl)
 
-  here : (i : ℕ) → i < length s → end_from i (drop i s) ≡ cond (ends_head (drop i s)) (some (i + 4)) (end_from (i + 1) (drop (i + 1) s))
+  here : (i : ℕ) → i < length s → end_from i (drop i s) ≡ cond (ends_head (drop i s)) (Some (i + 4)) (end_from (i + 1) (drop (i + 1) s))
   unfolding end_from
   here i h =
       ap (end_from i) (next s i h)
-      ∙ ap (λ (t : List ℕ). cond (ends_head t) (some (i + 4)) (end_from (i + 1) (drop (i + 1) s))) (sym (next s i h))
+      ∙ ap (λ (t : List ℕ). cond (ends_head t) (Some (i + 4)) (end_from (i + 1) (drop (i + 1) s))) (sym (next s i h))
 
-  pub end-here : (i : ℕ) → i < length s → ends_head (drop i s) ≡ true → end_from i (drop i s) ≡ some (i + 4)
-  end-here i h e = here i h ∙ ap (λ (t : Bool). cond t (some (i + 4)) (end_from (i + 1) (drop (i + 1) s))) e
+  pub end-here : (i : ℕ) → i < length s → ends_head (drop i s) ≡ true → end_from i (drop i s) ≡ Some (i + 4)
+  end-here i h e = here i h ∙ ap (λ (t : Bool). cond t (Some (i + 4)) (end_from (i + 1) (drop (i + 1) s))) e
 
   end_later : (i j : ℕ) → i + 1 ≡ j → i < length s → ends_head (drop i s) ≡ false → end_from i (drop i s) ≡ end_from j (drop j s)
   end_later i j q h e =
       here i h
-      ∙ ap (λ (t : Bool). cond t (some (i + 4)) (end_from (i + 1) (drop (i + 1) s))) e
+      ∙ ap (λ (t : Bool). cond t (Some (i + 4)) (end_from (i + 1) (drop (i + 1) s))) e
       ∙ ap (λ (k : ℕ). end_from k (drop k s)) q
 
   -- a place where none begins is passed, and then what is passed from the next place on
@@ -144,15 +144,15 @@ module _ (s : List ℕ) where
       rw l at (pass-then i (i + 16) (i + 16 + 16) (p (or_left a b e)) (q (or_right a b e)))
 
 -- a head lies in s and in the limit, and has its last four bytes
-some_end : (i : ℕ) (s : List ℕ) (n : ℕ) → end_from i s ≡ some n → (i + 4 ≤ n) × (n ≤ i + length s)
+some_end : (i : ℕ) (s : List ℕ) (n : ℕ) → end_from i s ≡ Some n → (i + 4 ≤ n) × (n ≤ i + length s)
 unfolding end_from
 some_end i [] n e = let z : ◌≡◌ {A = ℕ} 0 1 = cc in omega arith
 some_end i (b ∷ s) n e =
     by (eqb b 13 && eqb (get_or s 0 0) 10 && eqb (get_or s 1 0) 13) (eqb (get_or s 2 0) 10) refl (some_end (i + 1) s n) e
   where
     by :
-        (x t : Bool) → eqb (get_or s 2 0) 10 ≡ t → (end_from (i + 1) s ≡ some n → (i + 1 + 4 ≤ n) × (n ≤ i + 1 + length s))
-        → cond (x && t) (some (i + 4)) (end_from (i + 1) s) ≡ some n → (i + 4 ≤ n) × (n ≤ i + suc (length s))
+        (x t : Bool) → eqb (get_or s 2 0) 10 ≡ t → (end_from (i + 1) s ≡ Some n → (i + 1 + 4 ≤ n) × (n ≤ i + 1 + length s))
+        → cond (x && t) (Some (i + 4)) (end_from (i + 1) s) ≡ Some n → (i + 4 ≤ n) × (n ≤ i + suc (length s))
     by true true q h r =
         let k : i + 4 ≡ n = cc in
         let l = there s 2 9 (eqb-true _ _ q) in
@@ -160,7 +160,7 @@ some_end i (b ∷ s) n e =
     by true false q h r = omega (arith, h r)
     by false t q h r = omega (arith, h r)
 
-found : (s : List ℕ) (n : ℕ) → head_of s ≡ gives n → end_from 0 (take 8192 s) ≡ some n
+found : (s : List ℕ) (n : ℕ) → head_of s ≡ gives n → end_from 0 (take 8192 s) ≡ Some n
 unfolding head_of
 found s n e = given-gives (end_from 0 (take 8192 s)) _ n e
 
@@ -194,15 +194,15 @@ four_bytes s e =
     four (a ∷ (b ∷ (c ∷ []))) h p q r t = absurd (omega arith)
     four (a ∷ (b ∷ (c ∷ (d ∷ s)))) h p q r t = rw (p, q, r, t)
 
-some-ends : (i : ℕ) (s : List ℕ) (n : ℕ) → end_from i s ≡ some n → ends_head (drop (n - i - 4) s) ≡ true
+some-ends : (i : ℕ) (s : List ℕ) (n : ℕ) → end_from i s ≡ Some n → ends_head (drop (n - i - 4) s) ≡ true
 unfolding end_from
 some-ends i [] n e = cc
 some-ends i (b ∷ s) n e = by (ends_head (b ∷ s)) refl (some-ends (i + 1) s n) (some_end (i + 1) s n) e
   where
     by :
-        (x : Bool) → ends_head (b ∷ s) ≡ x → (end_from (i + 1) s ≡ some n → ends_head (drop (n - (i + 1) - 4) s) ≡ true)
-        → (end_from (i + 1) s ≡ some n → (i + 1 + 4 ≤ n) × (n ≤ i + 1 + length s))
-        → cond x (some (i + 4)) (end_from (i + 1) s) ≡ some n → ends_head (drop (n - i - 4) (b ∷ s)) ≡ true
+        (x : Bool) → ends_head (b ∷ s) ≡ x → (end_from (i + 1) s ≡ Some n → ends_head (drop (n - (i + 1) - 4) s) ≡ true)
+        → (end_from (i + 1) s ≡ Some n → (i + 1 + 4 ≤ n) × (n ≤ i + 1 + length s))
+        → cond x (Some (i + 4)) (end_from (i + 1) s) ≡ Some n → ends_head (drop (n - i - 4) (b ∷ s)) ≡ true
     by true q ih w r =
         let k : i + 4 ≡ n = cc in
         let z : n - i - 4 ≡ 0 = omega arith in
@@ -212,7 +212,7 @@ some-ends i (b ∷ s) n e = by (ends_head (b ∷ s)) refl (some-ends (i + 1) s n
         let z : n - i - 4 ≡ suc (n - (i + 1) - 4) = omega arith in
         rw z (ih r)
 
-first_ends : (s : List ℕ) (n : ℕ) → end_from 0 s ≡ some n → take 4 (drop (n - 4) s) ≡ 13 ∷ 10 ∷ 13 ∷ 10 ∷ []
+first_ends : (s : List ℕ) (n : ℕ) → end_from 0 s ≡ Some n → take 4 (drop (n - 4) s) ≡ 13 ∷ 10 ∷ 13 ∷ 10 ∷ []
 first_ends s n e =
     let z : n - 4 ≡ n - 0 - 4 = omega arith in
     four_bytes (drop (n - 4) s) (ap (λ (k : ℕ). ends_head (drop k s)) z ∙ some-ends 0 s n e)
@@ -226,7 +226,7 @@ head-ends s n e =
     ap (λ (t : List ℕ). take 4 (drop (n - 4) t)) (sym q) ∙ part-more (take 8192 s) (drop 8192 s) (n - 4) 4 l ∙ f
 
 -- bytes after a head do not change it
-end_more : (i : ℕ) (s t : List ℕ) (n : ℕ) → end_from i s ≡ some n → end_from i (s ++ t) ≡ some n
+end_more : (i : ℕ) (s t : List ℕ) (n : ℕ) → end_from i s ≡ Some n → end_from i (s ++ t) ≡ Some n
 unfolding end_from
 end_more i [] t n e = let z : ◌≡◌ {A = ℕ} 0 1 = cc in cc
 end_more i (b ∷ s) t n e =
@@ -235,8 +235,8 @@ end_more i (b ∷ s) t n e =
     (by (ends_head (b ∷ s)) (end_more (i + 1) s t n) e)
   where
     by :
-        (x : Bool) → (end_from (i + 1) s ≡ some n → end_from (i + 1) (s ++ t) ≡ some n)
-        → cond x (some (i + 4)) (end_from (i + 1) s) ≡ some n → cond x (some (i + 4)) (end_from (i + 1) (s ++ t)) ≡ some n
+        (x : Bool) → (end_from (i + 1) s ≡ Some n → end_from (i + 1) (s ++ t) ≡ Some n)
+        → cond x (Some (i + 4)) (end_from (i + 1) s) ≡ Some n → cond x (Some (i + 4)) (end_from (i + 1) (s ++ t)) ≡ Some n
     by true h r = r
     by false h r = h r
 
@@ -247,7 +247,7 @@ more-over s t h =
     let h' : 8192 ≤ length (s ++ t) = simp length-append (omega arith) in
     rw (take-append-le 8192 s t h, le-leb 8192 (length s) h, le-leb 8192 (length (s ++ t)) h')
 
-more-under : (s t : List ℕ) (n : ℕ) → length s < 8192 → end_from 0 s ≡ some n → head_of (s ++ t) ≡ gives n
+more-under : (s t : List ℕ) (n : ℕ) → length s < 8192 → end_from 0 s ≡ Some n → head_of (s ++ t) ≡ gives n
 unfolding head_of
 more-under s t n h e =
     let m : length s + (8192 - length s) ≡ 8192 = omega arith in
@@ -259,8 +259,8 @@ pub head-keeps : (s t : List ℕ) → (head_of s ≡ refused 1 → ⊥) → head
 head-keeps s t other = split (leb 8192 (length s)) refl
   where
     under : length s < 8192 → (o : Option ℕ) → end_from 0 s ≡ o → head_of (s ++ t) ≡ head_of s
-    under h none q = absurd (other (under-limit s h ∙ rw q))
-    under h (some n) q = more-under s t n h q ∙ sym (under-limit s h ∙ rw q)
+    under h None q = absurd (other (under-limit s h ∙ rw q))
+    under h (Some n) q = more-under s t n h q ∙ sym (under-limit s h ∙ rw q)
 
     split : (x : Bool) → leb 8192 (length s) ≡ x → head_of (s ++ t) ≡ head_of s
     split true q = more-over s t (leb-true _ _ q)

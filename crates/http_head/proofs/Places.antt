@@ -3,7 +3,7 @@
 use mathlib.Core.Path.{◌≡◌, refl, sym, ap, ◌∙◌}
 use mathlib.Core.Bool.{Bool, true, false, cond}
 use mathlib.Core.List.{List, [], ◌∷◌, ◌++◌, append-nil, append_assoc}
-use mathlib.Core.Option.{Option, none, some}
+use Rattle.std.proofs.Common.{Option, None, Some}
 use Prim.Native.Nat.{ℕ, suc, ◌+◌, ◌-◌, ◌*◌, ◌≤◌, ◌<◌}
 use native.Mathlib.Omega.{arith}
 use lib.Dec.{leb, leb-zero, leb-suc-zero, leb-suc-suc}
@@ -39,35 +39,35 @@ put-over d p n x y z w l room =
 
 -- the fields of lines, one line at a time
 module _ (rule : ℕ → Bool) where
-  lines_end : (k : ℕ) → fields_in k rule [] ≡ some []
+  lines_end : (k : ℕ) → fields_in k rule [] ≡ Some []
   unfolding each_field
   lines_end k = rw (leb-zero k)
 
   module _ (l : List ℕ) (ls : List (List ℕ)) where
-    lines-over : fields_in 0 rule (l ∷ ls) ≡ none
+    lines-over : fields_in 0 rule (l ∷ ls) ≡ None
     lines-over = rw (leb-suc-zero (length ls))
 
     lines_next : (k : ℕ) → fields_in (suc k) rule (l ∷ ls) ≡ ahead (field_of rule l) (fields_in k rule ls)
     unfolding each_field
     lines_next k = rw (leb-suc-suc (length ls) k) (by (leb (length ls) k) (field_of rule l))
       where
-        by : (t : Bool) (f : Option Field) → cond t (ahead f (each_field rule ls)) none ≡ ahead f (cond t (each_field rule ls) none)
+        by : (t : Bool) (f : Option Field) → cond t (ahead f (each_field rule ls)) None ≡ ahead f (cond t (each_field rule ls) None)
         by true f = refl
-        by false none = refl
-        by false (some f) = refl
+        by false None = refl
+        by false (Some f) = refl
 
 -- fields behind those that are done
 abbrev pub behind : List Field → Option (List Field) → Option (List Field)
-behind d none = none
-behind d (some fs) = some (d ++ fs)
+behind d None = None
+behind d (Some fs) = Some (d ++ fs)
 
 behind-none : (o : Option (List Field)) → behind [] o ≡ o
-behind-none none = refl
-behind-none (some fs) = refl
+behind-none None = refl
+behind-none (Some fs) = refl
 
-behind-one : (d : List Field) (f : Field) (o : Option (List Field)) → behind d (ahead (some f) o) ≡ behind (d ++ (f ∷ [])) o
-behind-one d f none = refl
-behind-one d f (some fs) = ap (λ (l : List Field). some l) (sym (append_snoc d f fs))
+behind-one : (d : List Field) (f : Field) (o : Option (List Field)) → behind d (ahead (Some f) o) ≡ behind (d ++ (f ∷ [])) o
+behind-one d f None = refl
+behind-one d f (Some fs) = ap (λ (l : List Field). Some l) (sym (append_snoc d f fs))
 
 -- a reader of a head's lines that has stored n fields, with the lines rest before it, of which the first starts at a place
 pub record Standing (rule : ℕ → Bool) (head : List ℕ) (rest : List (List ℕ)) (at : ℕ) (d : List ℕ) (n : ℕ) (out : List ℕ) : Type 0 where
@@ -104,18 +104,18 @@ module _
   pub at_end : rest ≡ [] → Stored rule head d out (Count n)
   unfolding places_from
   at_end e =
-      let a : fields_in (64 - n) rule rest ≡ some [] = ap (fields_in (64 - n) rule) e ∙ lines_end rule (64 - n) in
-      let b : fields_in 64 rule (lines_of head).others ≡ some r.fields =
-      r.answer ∙ ap (behind r.fields) a ∙ ap (λ (fs : List Field). some fs) (append-nil r.fields) in
+      let a : fields_in (64 - n) rule rest ≡ Some [] = ap (fields_in (64 - n) rule) e ∙ lines_end rule (64 - n) in
+      let b : fields_in 64 rule (lines_of head).others ≡ Some r.fields =
+      r.answer ∙ ap (behind r.fields) a ∙ ap (λ (fs : List Field). Some fs) (append-nil r.fields) in
       let p : places_of head ≡ r.numbers = r.places ∙ ap (λ (ls : List (List ℕ)). r.numbers ++ places_from at ls) e ∙ append-nil r.numbers in
       record { answer = rw (b, r.many); numbers = r.stored ∙ ap (over d 0) (sym p) }
 
   inside : 0 + length r.numbers ≤ length d
   inside = omega (arith, r.four, r.count, r.room)
 
-  fault : fields_in (64 - n) rule rest ≡ none → Stored rule head d out (Refused 15)
+  fault : fields_in (64 - n) rule rest ≡ None → Stored rule head d out (Refused 15)
   fault e =
-      let b : fields_in 64 rule (lines_of head).others ≡ none = r.answer ∙ ap (behind r.fields) e in
+      let b : fields_in 64 rule (lines_of head).others ≡ None = r.answer ∙ ap (behind r.fields) e in
       record {
         answer = rw b;
         numbers = (
@@ -138,12 +138,12 @@ module _
           let e : 64 - n ≡ suc (64 - (n + 1)) = omega (arith, r.count) in
           ap (λ (k : ℕ). fields_in k rule rest) e ∙ ap (fields_in (suc (64 - (n + 1))) rule) more ∙ lines_next rule l ls (64 - (n + 1))
 
-      pub bad-line : field_of rule l ≡ none → Stored rule head d out (Refused 15)
+      pub bad-line : field_of rule l ≡ None → Stored rule head d out (Refused 15)
       bad-line e = fault (one_line ∙ rw e)
 
       -- the line's field is stored, and the next line starts at a place
       pub onward :
-          (f : Field) → field_of rule l ≡ some f → (next : ℕ) → next ≡ at + length l + 2
+          (f : Field) → field_of rule l ≡ Some f → (next : ℕ) → next ≡ at + length l + 2
           → Standing rule head ls next d (n + 1) (put out n at (name_length l) (at + value_start l) (value_length l))
       unfolding places_from
       onward f e next q =

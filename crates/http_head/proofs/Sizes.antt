@@ -5,7 +5,7 @@ use Prim.{absurd}
 use mathlib.Core.Path.{◌≡◌, refl, ap}
 use mathlib.Core.Bool.{Bool, true, false, cond, ◌||◌}
 use mathlib.Core.List.{List, [], ◌∷◌}
-use mathlib.Core.Option.{Option, none, some}
+use Rattle.std.proofs.Common.{Option, None, Some}
 use native.Mathlib.Omega.{arith}
 use lib.Dec.{eqb, leb}
 use lib.ListN.{length, drop, get_or, length-append, length-take}
@@ -51,14 +51,14 @@ lines-size zero (b ∷ s) h = by (ends_line (b ∷ s)) refl (lines-size 1 s) (li
 
 -- The fields.
 
-field-size : (rule : ℕ → Bool) (l : List ℕ) (f : Field) → field_of rule l ≡ some f → length f.name + length f.value + 1 ≤ length l
+field-size : (rule : ℕ → Bool) (l : List ℕ) (f : Field) → field_of rule l ≡ Some f → length f.name + length f.value + 1 ≤ length l
 field-size rule l f e =
     let s = field-stands rule l f e in
     let n : length f.name ≤ name_length l = rw s.name (simp length-take (omega arith)) in
     let v = length-take (value_length l) (drop (value_start l) l) in
     omega (arith, s.value_inside, ap length s.value)
 
-each-size : (rule : ℕ → Bool) (ls : List (List ℕ)) (fs : List Field) → each_field rule ls ≡ some fs → fields_size fs ≤ others_size ls
+each-size : (rule : ℕ → Bool) (ls : List (List ℕ)) (fs : List Field) → each_field rule ls ≡ Some fs → fields_size fs ≤ others_size ls
 unfolding each_field fields_size others_size
 each-size rule [] fs e =
     let z : [] ≡ fs = cc in
@@ -66,18 +66,18 @@ each-size rule [] fs e =
 each-size rule (l ∷ ls) fs e = by (field_of rule l) (each_field rule ls) refl refl e (each-size rule ls)
   where
     by :
-        (f : Option Field) (o : Option (List Field)) → field_of rule l ≡ f → each_field rule ls ≡ o → ahead f o ≡ some fs
-        → ((gs : List Field) → each_field rule ls ≡ some gs → fields_size gs ≤ others_size ls) → fields_size fs ≤ 2 + length l + others_size ls
-    by none o a b x ih = let z : ◌≡◌ {A = ℕ} 0 1 = cc in omega arith
-    by (some f) none a b x ih = let z : ◌≡◌ {A = ℕ} 0 1 = cc in omega arith
-    by (some f) (some gs) a b x ih =
+        (f : Option Field) (o : Option (List Field)) → field_of rule l ≡ f → each_field rule ls ≡ o → ahead f o ≡ Some fs
+        → ((gs : List Field) → each_field rule ls ≡ Some gs → fields_size gs ≤ others_size ls) → fields_size fs ≤ 2 + length l + others_size ls
+    by None o a b x ih = let z : ◌≡◌ {A = ℕ} 0 1 = cc in omega arith
+    by (Some f) None a b x ih = let z : ◌≡◌ {A = ℕ} 0 1 = cc in omega arith
+    by (Some f) (Some gs) a b x ih =
         let z : f ∷ gs ≡ fs = cc in
         omega (arith, ap fields_size z, field-size rule l f a, ih gs b)
 
 fields-size : (rule : ℕ → Bool) (ls : List (List ℕ)) (fs : List Field) → fields_of rule ls ≡ gives fs → fields_size fs ≤ others_size ls
 fields-size rule ls fs e = by (leb (length ls) 64) (given-gives (fields_in 64 rule ls) 15 fs e)
   where
-    by : (t : Bool) → cond t (each_field rule ls) none ≡ some fs → fields_size fs ≤ others_size ls
+    by : (t : Bool) → cond t (each_field rule ls) None ≡ Some fs → fields_size fs ≤ others_size ls
     by true x = each-size rule ls fs x
     by false x = let z : ◌≡◌ {A = ℕ} 0 1 = cc in omega arith
 

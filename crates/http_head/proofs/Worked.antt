@@ -3,7 +3,7 @@
 use Prim.Native.Nat.{ℕ}
 use mathlib.Core.Path.{◌≡◌, refl}
 use mathlib.Core.List.{List, [], ◌∷◌, ◌++◌, map}
-use mathlib.Core.Option.{Option, none, some}
+use Rattle.std.proofs.Common.{Option, None, Some}
 use lib.ListN.{replicate}
 use Rattle.octets.specs.Text.{bytes}
 use Rattle.octets.specs.Outcome.{Outcome, refused, gives}
@@ -127,11 +127,11 @@ line-places = refl
 
 unfoldable pub field_numbers : List (Case (List ℕ) (Option FieldNumbers))
 field_numbers =
-    record { input = bytes "a:a"; answer = some (record { name = 1; value = 2; len = 1 }) } ∷
-    record { input = bytes "A: b c "; answer = some (record { name = 1; value = 3; len = 3 }) } ∷
-    record { input = bytes "A:"; answer = some (record { name = 1; value = 2; len = 0 }) } ∷
-    record { input = bytes "A:  "; answer = some (record { name = 1; value = 4; len = 0 }) } ∷
-    record { input = bytes "A"; answer = none } ∷
+    record { input = bytes "a:a"; answer = Some (record { name = 1; value = 2; len = 1 }) } ∷
+    record { input = bytes "A: b c "; answer = Some (record { name = 1; value = 3; len = 3 }) } ∷
+    record { input = bytes "A:"; answer = Some (record { name = 1; value = 2; len = 0 }) } ∷
+    record { input = bytes "A:  "; answer = Some (record { name = 1; value = 4; len = 0 }) } ∷
+    record { input = bytes "A"; answer = None } ∷
     []
 
 pub field-numbers-right : map (λ c. numbers_of is_name c.input) field_numbers ≡ map (λ c. c.answer) field_numbers

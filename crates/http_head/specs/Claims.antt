@@ -1,7 +1,6 @@
 -- What is claimed of the head of a request: where it ends, its request line and its field lines.
 -- Assumes nothing.
-use Rattle.std.specs.Prelude.{ℕ, ◌+◌, ◌-◌, ◌≤◌, ◌<◌, ◌≡◌, Bool, true, ◌↔◌, List, [], ◌∷◌, ◌++◌, length, take, drop}
-use Rattle.std.proofs.Math.Option.{some}
+use Rattle.std.specs.Prelude.{ℕ, ◌+◌, ◌-◌, ◌≤◌, ◌<◌, ◌≡◌, Bool, true, ◌↔◌, List, [], ◌∷◌, ◌++◌, length, take, drop, Some}
 use Rattle.octets.specs.Outcome.{refused, gives}
 use Rattle.octets.specs.Kinds.{one_of, is_value}
 use Rattle.octets.specs.Scan.{all_of}
@@ -84,7 +83,7 @@ pub record FieldStands (line : List ℕ) (f : Field) : Type 0 where
   pub value_inside : value_start line + value_length line ≤ length line
 
 abbrev pub FieldsHaveNumbers : Type 0
-FieldsHaveNumbers = (rule : ℕ → Bool) (line : List ℕ) (f : Field) → field_of rule line ≡ some f → FieldStands line f
+FieldsHaveNumbers = (rule : ℕ → Bool) (line : List ℕ) (f : Field) → field_of rule line ≡ Some f → FieldStands line f
 
 -- a field's name and value have only their bytes, and the value no NUL
 pub record Clean (rule : ℕ → Bool) (f : Field) : Type 0 where

@@ -1,7 +1,6 @@
 -- Field lines, and the places of fields in a lent list of numbers.
 -- Assumes nothing.
-use Rattle.std.specs.Prelude.{ℕ, zero, suc, ◌+◌, ◌*◌, ◌≤◌, ◌<◌, ◌≡◌, Bool, cond, ◌&&◌, List, [], ◌∷◌, leb, ltb, length, take, drop, get_or}
-use Rattle.std.proofs.Math.Option.{Option, none, some}
+use Rattle.std.specs.Prelude.{ℕ, zero, suc, ◌+◌, ◌*◌, ◌≤◌, ◌<◌, ◌≡◌, Bool, cond, ◌&&◌, List, [], ◌∷◌, leb, ltb, length, take, drop, get_or, Option, None, Some}
 use Rattle.octets.specs.Outcome.{Outcome, refused, gives, then, given}
 use Rattle.octets.specs.Kinds.{is_blank, is_value}
 use Rattle.octets.specs.Scan.{run, all_of, other}
@@ -31,7 +30,7 @@ abbrev pub field_with : (ℕ → Bool) → List ℕ → ℕ → Option Field
 field_with rule line n =
     let name = take n line in
     let value = trimmed (drop (n + 1) line) in
-    cond (ltb n (length line) && is_field_name rule name && all_of is_value value) (some (record { name = name; value = value })) none
+    cond (ltb n (length line) && is_field_name rule name && all_of is_value value) (Some (record { name = name; value = value })) None
 
 -- "A field line is a name, `:`, a value": how long the name is
 abbrev pub name_length : List ℕ → ℕ
@@ -51,18 +50,18 @@ value_length line = length (trimmed (drop (name_length line + 1) line))
 
 -- a field before others, where all are there
 abbrev pub ahead : Option Field → Option (List Field) → Option (List Field)
-ahead none fs = none
-ahead (some f) none = none
-ahead (some f) (some fs) = some (f ∷ fs)
+ahead None fs = None
+ahead (Some f) None = None
+ahead (Some f) (Some fs) = Some (f ∷ fs)
 
 -- the fields of lines, where each line has one
 unfoldable pub each_field : (ℕ → Bool) → List (List ℕ) → Option (List Field)
-each_field rule [] = some []
+each_field rule [] = Some []
 each_field rule (l ∷ ls) = ahead (field_of rule l) (each_field rule ls)
 
 -- .. and they are at most k
 abbrev pub fields_in : ℕ → (ℕ → Bool) → List (List ℕ) → Option (List Field)
-fields_in k rule lines = cond (leb (length lines) k) (each_field rule lines) none
+fields_in k rule lines = cond (leb (length lines) k) (each_field rule lines) None
 
 -- 15: "field line refused, or more than 64"
 abbrev pub fields_of : (ℕ → Bool) → List (List ℕ) → Outcome (List Field)
@@ -75,21 +74,21 @@ pub record FieldNumbers : Type 0 where
   pub len : ℕ
 
 abbrev pub numbers_if : Option Field → List ℕ → Option FieldNumbers
-numbers_if none line = none
-numbers_if (some f) line = some (record { name = name_length line; value = value_start line; len = value_length line })
+numbers_if None line = None
+numbers_if (Some f) line = Some (record { name = name_length line; value = value_start line; len = value_length line })
 
 abbrev pub numbers_of : (ℕ → Bool) → List ℕ → Option FieldNumbers
 numbers_of rule line = numbers_if (field_of rule line) line
 
 -- what the code's answer says
 abbrev pub line_option : FieldLine → Option FieldNumbers
-line_option (LineField n v k) = some (record { name = n; value = v; len = k })
-line_option Malformed = none
+line_option (LineField n v k) = Some (record { name = n; value = v; len = k })
+line_option Malformed = None
 
 -- the same for a line that starts at a place in a head, and where the line ends there
 abbrev pub place_if : Option Field → ℕ → List ℕ → FieldPlace
-place_if none at line = NoPlace
-place_if (some f) at line = At (name_length line) (at + value_start line) (value_length line) (at + length line)
+place_if None at line = NoPlace
+place_if (Some f) at line = At (name_length line) (at + value_start line) (value_length line) (at + length line)
 
 abbrev pub place_of : (ℕ → Bool) → List ℕ → ℕ → FieldPlace
 place_of rule head at = let line = (lines_of (drop at head)).first in place_if (field_of rule line) at line

@@ -1,7 +1,6 @@
 -- Where the head of a request ends.
 -- Assumes nothing.
-use Rattle.std.specs.Prelude.{◌≡◌, ℕ, ◌+◌, ◌≤◌, Bool, cond, ◌&&◌, List, [], ◌∷◌, eqb, leb, length, take, drop, get_or}
-use Rattle.std.proofs.Math.Option.{Option, none, some}
+use Rattle.std.specs.Prelude.{◌≡◌, ℕ, ◌+◌, ◌≤◌, Bool, cond, ◌&&◌, List, [], ◌∷◌, eqb, leb, length, take, drop, get_or, Option, None, Some}
 use Rattle.octets.specs.Outcome.{Outcome, refused, gives, given}
 use Rattle.http_head.specs.declared.head.End.{End}
 use Rattle.http_head.specs.declared.head.End.TheVariants.{At, Nowhere}
@@ -10,8 +9,8 @@ use Rattle.http_head.specs.declared.head.Head.TheVariants.{Bytes, Refused}
 
 -- what the code's answers say
 abbrev pub end_option : End → Option ℕ
-end_option (At n) = some n
-end_option Nowhere = none
+end_option (At n) = Some n
+end_option Nowhere = None
 
 abbrev pub head_outcome : Head → Outcome ℕ
 head_outcome (Bytes n) = gives n
@@ -23,8 +22,8 @@ ends_head s = eqb (get_or s 0 0) 13 && eqb (get_or s 1 0) 10 && eqb (get_or s 2 
 
 -- where "the first CR LF CR LF" of s ends, i bytes standing before s
 unfoldable pub end_from : ℕ → List ℕ → Option ℕ
-end_from i [] = none
-end_from i (b ∷ s) = cond (ends_head (b ∷ s)) (some (i + 4)) (end_from (i + 1) s)
+end_from i [] = None
+end_from i (b ∷ s) = cond (ends_head (b ∷ s)) (Some (i + 4)) (end_from (i + 1) s)
 
 -- a search of s may go on from one place to another: from both on, the first CR LF CR LF ends at the same place
 pub record Passed (s : List ℕ) (from to : ℕ) : Type 0 where

@@ -4,7 +4,7 @@ use Prim.Native.Nat.{ℕ, ◌*◌, ◌≤◌}
 use mathlib.Core.Path.{◌≡◌, refl, sym, ap, ◌∙◌}
 use mathlib.Core.Bool.{Bool, true, false, false≢true, not, ◌&&◌}
 use mathlib.Core.List.{List, [], ◌∷◌}
-use mathlib.Core.Option.{Option, none, some}
+use Rattle.std.proofs.Common.{Option, None, Some}
 use native.Mathlib.Omega.{arith}
 use lib.Dec.{leb}
 use lib.ListN.{length}
@@ -85,30 +85,30 @@ module _ (facts site mounts : List ℕ) where
 -- With lists for the places of names.
 
 module _ (n m : ℕ) (facts site mounts : List ℕ) where
-  pub facts-full : none ≡ stored_of 1024 n facts → LentTried n m facts site mounts Full
+  pub facts-full : None ≡ stored_of 1024 n facts → LentTried n m facts site mounts Full
   facts-full e = record { answer = rw (blocks-told.full 1024 n facts e) }
 
-  pub facts-wrong : some (refused 20) ≡ stored_of 1024 n facts → LentTried n m facts site mounts (Done (Refused 20))
+  pub facts-wrong : Some (refused 20) ≡ stored_of 1024 n facts → LentTried n m facts site mounts (Done (Refused 20))
   facts-wrong e =
       let b = blocks-told.breach 1024 n facts e in
       record { answer = (rw (b.0, b.1), wrong-facts facts site mounts b.1) }
 
-  module _ (k : ℕ) (e : some (gives k) ≡ stored_of 1024 n facts) where
+  module _ (k : ℕ) (e : Some (gives k) ≡ stored_of 1024 n facts) where
     f : (lacks_room 1024 n facts ≡ false) × BlockGood 1024 facts
     f = blocks-told.good 1024 n facts k e
 
     by-site : lacks_either n m facts site ≡ lacks_room 1024 m site
     by-site = rw (f.0, f.1.accepted)
 
-    pub site-full : none ≡ stored_of 1024 m site → LentTried n m facts site mounts Full
+    pub site-full : None ≡ stored_of 1024 m site → LentTried n m facts site mounts Full
     site-full d = record { answer = by-site ∙ blocks-told.full 1024 m site d }
 
-    pub site-wrong : some (refused 20) ≡ stored_of 1024 m site → LentTried n m facts site mounts (Done (Refused 20))
+    pub site-wrong : Some (refused 20) ≡ stored_of 1024 m site → LentTried n m facts site mounts (Done (Refused 20))
     site-wrong d =
         let b = blocks-told.breach 1024 m site d in
         record { answer = (by-site ∙ b.0, wrong-site facts site mounts f.1 b.1) }
 
-    pub all-tried : (j : ℕ) → some (gives j) ≡ stored_of 1024 m site → (r : Checked) → LentFound facts site mounts r → LentTried n m facts site mounts (Done r)
+    pub all-tried : (j : ℕ) → Some (gives j) ≡ stored_of 1024 m site → (r : Checked) → LentFound facts site mounts r → LentTried n m facts site mounts (Done r)
     all-tried j d r l = record { answer = (by-site ∙ (blocks-told.good 1024 m site j d).0, l) }
 
 -- room for two numbers for each header of a block of 1,024 bytes is room enough
@@ -116,8 +116,8 @@ never-full : (b : List ℕ) (room : ℕ) → 682 ≤ room → lacks_room 1024 ro
 never-full b room h = tested (leb (length b) 1024) refl
   where
     many : (o : Option (List Header)) → headers_of b ≡ o → length b ≤ 1024 → many_for room o ≡ false
-    many none z l = refl
-    many (some hs) z l = le-ltb room (2 * length hs) (omega (arith, headers-few b hs (ap (λ (o : Option (List Header)). given o 5) z)))
+    many None z l = refl
+    many (Some hs) z l = le-ltb room (2 * length hs) (omega (arith, headers-few b hs (ap (λ (o : Option (List Header)). given o 5) z)))
 
     tested : (t : Bool) → leb (length b) 1024 ≡ t → t && many_for room (headers_of b) ≡ false
     tested true q = many (headers_of b) refl (leb-true (length b) 1024 q)
@@ -138,9 +138,9 @@ sought-refuses : (name : List ℕ) (fs ss : List Header) → Refuses (20 ∷ [])
 sought-refuses name fs ss = filled-refuses (or_in (value_in name fs) (value_in name ss))
 
 auth-refuses : (t u : Option (List ℕ)) → Refuses (20 ∷ []) (auth_of t u)
-auth-refuses none none = not_refused
-auth-refuses none (some u) = with_number refl
-auth-refuses (some t) u = refuses-then (filled-refuses (some t)) (λ a. refuses-then (filled-refuses u) (λ r. not_refused))
+auth-refuses None None = not_refused
+auth-refuses None (Some u) = with_number refl
+auth-refuses (Some t) u = refuses-then (filled-refuses (Some t)) (λ a. refuses-then (filled-refuses u) (λ r. not_refused))
 
 settings-refuse : (fs ss : List Header) → Refuses (20 ∷ []) (settings_of fs ss)
 unfolding settings_of

@@ -5,7 +5,7 @@ use Prim.{absurd}
 use mathlib.Core.Path.{◌≡◌, ◌∙◌}
 use mathlib.Core.Bool.{Bool, true, false, cond, not}
 use mathlib.Core.List.{List, [], ◌∷◌}
-use mathlib.Core.Option.{Option, none, some}
+use Rattle.std.proofs.Common.{Option, None, Some}
 use native.Mathlib.Omega.{arith}
 use Rattle.octets.specs.Text.{bytes}
 use Rattle.octets.specs.Outcome.{gives, given}
@@ -23,22 +23,22 @@ use Rattle.lent.proofs.Links.{links}
 
 -- a value that is there has no NUL
 abbrev Plain : Option (List ℕ) → Type 0
-Plain o = (v : List ℕ) → o ≡ some v → NoNul v
+Plain o = (v : List ℕ) → o ≡ Some v → NoNul v
 
 value-plain : (name : List ℕ) (hs : List Header) → All Proper hs → Plain (value_in name hs)
 unfolding value_in
 value-plain name [] p v e = absurd (let z : ◌≡◌ {A = ℕ} 0 1 = cc in omega arith)
 value-plain name (h ∷ hs) (p & ps) v e = by (same_bytes h.name name) (value-plain name hs ps v) e
   where
-    by : (t : Bool) → (value_in name hs ≡ some v → NoNul v) → cond t (some h.value) (value_in name hs) ≡ some v → NoNul v
+    by : (t : Bool) → (value_in name hs ≡ Some v → NoNul v) → cond t (Some h.value) (value_in name hs) ≡ Some v → NoNul v
     by true ih q =
         let z : h.value ≡ v = cc in
         rw (← z) p.value_bytes
     by false ih q = ih q
 
 or-plain : (a b : Option (List ℕ)) → Plain a → Plain b → Plain (or_in a b)
-or-plain none b p q = q
-or-plain (some v) b p q = p
+or-plain None b p q = q
+or-plain (Some v) b p q = p
 
 filled-plain : (o : Option (List ℕ)) (v : List ℕ) → Plain o → filled o ≡ gives v → NoNul v
 filled-plain o v p e =
@@ -47,14 +47,14 @@ filled-plain o v p e =
     p v (given-gives o 20 v (a.first ∙ b.1))
 
 auth-proper : (t u : Option (List ℕ)) (a : Option Auth) → Plain t → Plain u → auth_of t u ≡ gives a → ProperAuth a
-auth-proper none none a p q e = rw (← gives-once none a e) neither
-auth-proper none (some u) a p q e = absurd (let z : ◌≡◌ {A = ℕ} 0 1 = cc in omega arith)
-auth-proper (some t) u a p q e =
-    let b = then-gives (filled (some t)) _ a e in
+auth-proper None None a p q e = rw (← gives-once None a e) neither
+auth-proper None (Some u) a p q e = absurd (let z : ◌≡◌ {A = ℕ} 0 1 = cc in omega arith)
+auth-proper (Some t) u a p q e =
+    let b = then-gives (filled (Some t)) _ a e in
     let c = then-gives (filled u) _ a b.next in
-    both_at b.it c.it (filled-plain (some t) b.it p b.first) (filled-plain u c.it q c.first) (gives-once _ a c.next)
+    both_at b.it c.it (filled-plain (Some t) b.it p b.first) (filled-plain u c.it q c.first) (gives-once _ a c.next)
   where
-    both_at : (x y : List ℕ) → NoNul x → NoNul y → some (record { auth_type = x; remote_user = y }) ≡ a → ProperAuth a
+    both_at : (x y : List ℕ) → NoNul x → NoNul y → Some (record { auth_type = x; remote_user = y }) ≡ a → ProperAuth a
     both_at x y m n z = rw (← z) (both m n)
 
 module _ (facts site : List Header) (pf : All Proper facts) (ps : All Proper site) where

@@ -4,7 +4,7 @@ use Prim.Native.Nat.{ℕ, ◌+◌, ◌≤◌}
 use mathlib.Core.Path.{◌≡◌, refl, ap, ◌∙◌}
 use mathlib.Core.Bool.{not}
 use mathlib.Core.List.{List, [], ◌∷◌}
-use mathlib.Core.Option.{Option, none, some}
+use Rattle.std.proofs.Common.{Option, None, Some}
 use native.Mathlib.Omega.{arith}
 use lib.ListN.{length}
 use Rattle.octets.specs.Text.{bytes}
@@ -22,17 +22,17 @@ use Rattle.lent.proofs.Links.{links}
 
 -- One value.
 
-filled-some : (o : Option (List ℕ)) (v : List ℕ) → filled o ≡ gives v → o ≡ some v
+filled-some : (o : Option (List ℕ)) (v : List ℕ) → filled o ≡ gives v → o ≡ Some v
 filled-some o v e =
     let a = then-gives (given o 20) _ v e in
     let b = need-gives (not (is_nil a.it)) 20 (gives a.it) v a.next in
     given-gives o 20 v (a.first ∙ b.1)
 
-either-size : (n : List ℕ) (a b : Option (List ℕ)) (v : List ℕ) → or_in a b ≡ some v → length n + length v + 2 ≤ size_of n a + size_of n b
-either-size n (some w) b v e =
+either-size : (n : List ℕ) (a b : Option (List ℕ)) (v : List ℕ) → or_in a b ≡ Some v → length n + length v + 2 ≤ size_of n a + size_of n b
+either-size n (Some w) b v e =
     let z : w ≡ v = cc in
     omega (arith, ap length z)
-either-size n none b v e = omega (arith, ap (size_of n) e)
+either-size n None b v e = omega (arith, ap (size_of n) e)
 
 sought-size :
     (n : List ℕ) (facts site : List Header) (v : List ℕ) → sought n facts site ≡ gives v
@@ -40,14 +40,14 @@ sought-size :
 sought-size n facts site v e = either-size n (value_in n facts) (value_in n site) v (filled-some _ v e)
 
 auth-size : (t u : Option (List ℕ)) (a : Option Auth) → auth_of t u ≡ gives a → auth_size a ≤ size_of (bytes "AUTH_TYPE") t + size_of (bytes "REMOTE_USER") u
-auth-size none none a e = omega (arith, ap auth_size (gives-once none a e))
-auth-size none (some u) a e = let z : ◌≡◌ {A = ℕ} 0 1 = cc in omega arith
-auth-size (some t) u a e =
-    let x = then-gives (filled (some t)) _ a e in
+auth-size None None a e = omega (arith, ap auth_size (gives-once None a e))
+auth-size None (Some u) a e = let z : ◌≡◌ {A = ℕ} 0 1 = cc in omega arith
+auth-size (Some t) u a e =
+    let x = then-gives (filled (Some t)) _ a e in
     let y = then-gives (filled u) _ a x.next in
-    let z : some (record { auth_type = x.it; remote_user = y.it }) ≡ a = gives-once _ a y.next in
+    let z : Some (record { auth_type = x.it; remote_user = y.it }) ≡ a = gives-once _ a y.next in
     omega
-    (arith, ap auth_size z, ap (size_of (bytes "AUTH_TYPE")) (filled-some (some t) x.it x.first), ap (size_of (bytes "REMOTE_USER")) (filled-some u y.it y.first))
+    (arith, ap auth_size z, ap (size_of (bytes "AUTH_TYPE")) (filled-some (Some t) x.it x.first), ap (size_of (bytes "REMOTE_USER")) (filled-some u y.it y.first))
 
 -- All of them: which names are sought in which block.
 
@@ -68,7 +68,7 @@ settings-size facts site s e =
     let d = then-gives (filled (value_in (bytes "REMOTE_ADDR") facts)) _ s c.next in
     let i = then-gives (auth_of (value_in (bytes "AUTH_TYPE") facts) (value_in (bytes "REMOTE_USER") facts)) _ s d.next in
     let z : record { auth = i.it; remote_addr = d.it; server_name = a.it; server_port = b.it; server_software = c.it } ≡ s = gives-once _ s i.next in
-    let addr : value_in (bytes "REMOTE_ADDR") facts ≡ some d.it = filled-some _ d.it d.first in
+    let addr : value_in (bytes "REMOTE_ADDR") facts ≡ Some d.it = filled-some _ d.it d.first in
     let j = sought-size (bytes "SERVER_NAME") facts site a.it a.first in
     let k = sought-size (bytes "SERVER_PORT") facts site p.it p.first in
     let l = sought-size (bytes "SERVER_SOFTWARE") facts site c.it c.first in

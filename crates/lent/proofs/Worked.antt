@@ -4,7 +4,7 @@ use Prim.Native.Nat.{ℕ}
 use Prim.Native.String.{String}
 use mathlib.Core.Path.{◌≡◌, refl}
 use mathlib.Core.List.{List, [], ◌∷◌, map}
-use mathlib.Core.Option.{none, some}
+use Rattle.std.proofs.Common.{None, Some}
 use lib.ListN.{replicate}
 use Rattle.octets.specs.Text.{bytes, barred}
 use Rattle.octets.specs.Outcome.{Outcome, refused, gives}
@@ -33,7 +33,7 @@ pub record Case : Type 0 where
 abbrev pub plain : Settings
 plain =
     record {
-      auth = none;
+      auth = None;
       remote_addr = bytes "10.0.0.9";
       server_name = bytes "q.example";
       server_port = bytes "80";
@@ -68,7 +68,7 @@ cases =
           (record {
             settings =
                 record {
-                  auth = some (record { auth_type = bytes "Basic"; remote_user = bytes "ann" });
+                  auth = Some (record { auth_type = bytes "Basic"; remote_user = bytes "ann" });
                   remote_addr = bytes "10.0.0.9";
                   server_name = bytes "q.example";
                   server_port = bytes "65535";

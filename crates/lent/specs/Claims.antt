@@ -1,7 +1,6 @@
 -- What is claimed of what the gateway is lent.
 -- Assumes nothing.
-use Rattle.std.specs.Prelude.{ℕ, ◌+◌, ◌≤◌, ◌≡◌, List, length}
-use Rattle.std.proofs.Math.Option.{Option, none, some}
+use Rattle.std.specs.Prelude.{ℕ, ◌+◌, ◌≤◌, ◌≡◌, List, length, Option, None, Some}
 use Rattle.octets.specs.Outcome.{refused, gives}
 use Rattle.octets.specs.Lists.{NoNul}
 use Rattle.mounts.specs.Mounts.{Mount, mounts_of}
@@ -14,8 +13,8 @@ use Rattle.lent.specs.declared.check.Checked.TheVariants.{Lent as CheckedLent, R
 
 -- what the form of the blocks gives, "name, NUL, value, NUL": no NUL in a value
 pub data ProperAuth : Option Auth → Type 0 where
-  neither : ProperAuth none
-  both : {a : Auth} → NoNul a.auth_type → NoNul a.remote_user → ProperAuth (some a)
+  neither : ProperAuth None
+  both : {a : Auth} → NoNul a.auth_type → NoNul a.remote_user → ProperAuth (Some a)
 
 pub record ProperSettings (s : Settings) : Type 0 where
   pub auth : ProperAuth s.auth
@@ -29,8 +28,8 @@ LentIsProper = (facts site mounts : List ℕ) (l : Lent) → lent_of facts site 
 
 -- how many bytes the variables take that the settings give, with their names and NULs: AUTH_TYPE and REMOTE_USER where they are there
 abbrev pub auth_size : Option Auth → ℕ
-auth_size none = 0
-auth_size (some a) = (11 + length a.auth_type) + (13 + length a.remote_user)
+auth_size None = 0
+auth_size (Some a) = (11 + length a.auth_type) + (13 + length a.remote_user)
 
 -- .. and REMOTE_ADDR, SERVER_NAME, SERVER_PORT and SERVER_SOFTWARE
 abbrev pub settings_size : Settings → ℕ

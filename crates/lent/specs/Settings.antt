@@ -1,7 +1,6 @@
 -- The values that the lent blocks give.
 -- Assumes nothing.
-use Rattle.std.specs.Prelude.{ℕ, Bool, false, not, ◌&&◌, List, [], ◌∷◌, leb}
-use Rattle.std.proofs.Math.Option.{Option, none, some}
+use Rattle.std.specs.Prelude.{ℕ, Bool, false, not, ◌&&◌, List, [], ◌∷◌, leb, Option, None, Some}
 use Rattle.octets.specs.Text.{bytes}
 use Rattle.octets.specs.Outcome.{Outcome, refused, gives, then, need, given}
 use Rattle.octets.specs.Lists.{is_nil}
@@ -28,8 +27,8 @@ filled v = then (given v 20) (λ w. need (not (is_nil w)) 20 (gives w))
 
 -- the value of the first block that has the name, be it empty
 abbrev pub or_in : Option (List ℕ) → Option (List ℕ) → Option (List ℕ)
-or_in (some v) site = some v
-or_in none site = site
+or_in (Some v) site = Some v
+or_in None site = site
 
 -- "sought in the connection facts, then in the site settings"; "must be found and not empty"
 abbrev pub sought : List ℕ → List Header → List Header → Outcome (List ℕ)
@@ -37,8 +36,8 @@ sought name facts site = filled (or_in (value_in name facts) (value_in name site
 
 -- "1 to 65535"
 abbrev pub port_number : Option ℕ → Bool
-port_number none = false
-port_number (some n) = leb 1 n && leb n 65535
+port_number None = false
+port_number (Some n) = leb 1 n && leb n 65535
 
 -- "the port is 1 to 65535 in digits without a leading zero"; 02 §2: "a longer one is .. 20 in the port". The digit 0 is 48
 abbrev pub is_port : List ℕ → Bool
@@ -49,10 +48,10 @@ port_in facts site = then (sought (bytes "SERVER_PORT") facts site) (λ port. ne
 
 -- "both there and not empty, or both absent"
 abbrev pub auth_of : Option (List ℕ) → Option (List ℕ) → Outcome (Option Auth)
-auth_of none none = gives none
-auth_of none (some u) = refused 20
-auth_of (some t) u =
-    then (filled (some t)) (λ a. then (filled u) (λ r. gives (some (record { auth_type = a; remote_user = r }))))
+auth_of None None = gives None
+auth_of None (Some u) = refused 20
+auth_of (Some t) u =
+    then (filled (Some t)) (λ a. then (filled u) (λ r. gives (Some (record { auth_type = a; remote_user = r }))))
 
 -- of the connection facts and the site settings. "REMOTE_ADDR, AUTH_TYPE and REMOTE_USER come from the connection facts only"
 unfoldable pub settings_of : List Header → List Header → Outcome Settings

@@ -4,7 +4,7 @@ use Prim.Native.Nat.{ℕ, ◌*◌, ◌≤◌, ◌<◌}
 use mathlib.Core.Path.{◌≡◌, refl, sym, ap}
 use mathlib.Core.Bool.{Bool, true, false, cond, ◌&&◌}
 use mathlib.Core.List.{List}
-use mathlib.Core.Option.{Option, none, some}
+use Rattle.std.proofs.Common.{Option, None, Some}
 use lib.Dec.{leb, ltb}
 use lib.ListN.{length}
 use borrow.Author.Tests.{le-leb, lt-leb, leb-true, lt-ltb, le-ltb}
@@ -35,19 +35,19 @@ need-refused false = refl
 -- Storing the names of a block, where there is room for so many numbers.
 
 module _ (limit : ℕ) (b : List ℕ) (room : ℕ) where
-  pub long-block : limit < length b → some (refused 20) ≡ stored_of limit room b
+  pub long-block : limit < length b → Some (refused 20) ≡ stored_of limit room b
   long-block h = rw (lt-leb (length b) limit h)
 
-  pub malformed-block : (k : ℕ) → count_of b ≡ refused k → some (refused 20) ≡ stored_of limit room b
+  pub malformed-block : (k : ℕ) → count_of b ≡ refused k → Some (refused 20) ≡ stored_of limit room b
   malformed-block k e = by (headers_of b) e
     where
       by :
           (o : Option (List Header)) → then (given o 5) (λ hs. gives (length hs)) ≡ refused k
-          → some (refused 20)
-          ≡ cond (leb (length b) limit && many_for room o) none
-          (some (then (need (leb (length b) limit) 20 (then (given o 20) (λ hs. need (different (names hs)) 20 (gives hs)))) (λ hs. gives (length hs))))
-      by none q = rw (and-false (leb (length b) limit), need-refused (leb (length b) limit))
-      by (some hs) q = cc
+          → Some (refused 20)
+          ≡ cond (leb (length b) limit && many_for room o) None
+          (Some (then (need (leb (length b) limit) 20 (then (given o 20) (λ hs. need (different (names hs)) 20 (gives hs)))) (λ hs. gives (length hs))))
+      by None q = rw (and-false (leb (length b) limit), need-refused (leb (length b) limit))
+      by (Some hs) q = cc
 
   module _ (n : ℕ) (e : count_of b ≡ gives n) (l : length b ≤ limit) where
     lacks : lacks_room limit room b ≡ ltb room (2 * n)
@@ -55,7 +55,7 @@ module _ (limit : ℕ) (b : List ℕ) (room : ℕ) where
         let g = counted b n e in
         rw (le-leb (length b) limit l, given-gives (headers_of b) 5 g.it g.first, count b n e)
 
-    pub full_block : room < 2 * n → none ≡ stored_of limit room b
+    pub full_block : room < 2 * n → None ≡ stored_of limit room b
     full_block h = rw (lacks, lt-ltb room (2 * n) h)
 
     -- by whether the names differ
@@ -69,8 +69,8 @@ module _ (limit : ℕ) (b : List ℕ) (room : ℕ) where
     by-test hs z true = ap gives z
     by-test hs z false = refl
 
-    pub roomy-block : 2 * n ≤ room → (r : Bool) → then (parsed b) (λ hs. gives (different (names hs))) ≡ gives r → some (need r 20 (gives n)) ≡ stored_of limit room b
-    roomy-block h r d = rw (lacks, le-ltb room (2 * n) h, by_names r d) (ap some (sym (by-test (counted b n e).it (count b n e) r)))
+    pub roomy-block : 2 * n ≤ room → (r : Bool) → then (parsed b) (λ hs. gives (different (names hs))) ≡ gives r → Some (need r 20 (gives n)) ≡ stored_of limit room b
+    roomy-block h r d = rw (lacks, le-ltb room (2 * n) h, by_names r d) (ap Some (sym (by-test (counted b n e).it (count b n e) r)))
 
 -- What is accepted, and what the answers say.
 
@@ -91,30 +91,30 @@ blocks-hold =
     }
 
 module _ (limit room : ℕ) (b : List ℕ) where
-  is-full : none ≡ stored_of limit room b → lacks_room limit room b ≡ true
+  is-full : None ≡ stored_of limit room b → lacks_room limit room b ≡ true
   is-full e = by (lacks_room limit room b) e
     where
-      by : (t : Bool) → none ≡ cond t none (some (then (block_of limit b) (λ hs. gives (length hs)))) → t ≡ true
+      by : (t : Bool) → None ≡ cond t None (Some (then (block_of limit b) (λ hs. gives (length hs)))) → t ≡ true
       by true q = refl
       by false q = cc
 
-  has_room : (o : Outcome ℕ) → some o ≡ stored_of limit room b → (lacks_room limit room b ≡ false) × (then (block_of limit b) (λ hs. gives (length hs)) ≡ o)
+  has_room : (o : Outcome ℕ) → Some o ≡ stored_of limit room b → (lacks_room limit room b ≡ false) × (then (block_of limit b) (λ hs. gives (length hs)) ≡ o)
   has_room o e = by (lacks_room limit room b) e
     where
       by :
-          (t : Bool) → some o ≡ cond t none (some (then (block_of limit b) (λ hs. gives (length hs))))
+          (t : Bool) → Some o ≡ cond t None (Some (then (block_of limit b) (λ hs. gives (length hs))))
           → (t ≡ false) × (then (block_of limit b) (λ hs. gives (length hs)) ≡ o)
       by true q = (cc, cc)
       by false q = (refl, cc)
 
-  is-breach : some (refused 20) ≡ stored_of limit room b → (lacks_room limit room b ≡ false) × (block_of limit b ≡ refused 20)
+  is-breach : Some (refused 20) ≡ stored_of limit room b → (lacks_room limit room b ≡ false) × (block_of limit b ≡ refused 20)
   is-breach e = ((has_room (refused 20) e).0, by (block_of limit b) (has_room (refused 20) e).1)
     where
       by : (o : Outcome (List Header)) → then o (λ hs. gives (length hs)) ≡ refused 20 → o ≡ refused 20
       by (refused k) q = cc
       by (gives hs) q = cc
 
-  is-good : (n : ℕ) → some (gives n) ≡ stored_of limit room b → (lacks_room limit room b ≡ false) × BlockGood limit b
+  is-good : (n : ℕ) → Some (gives n) ≡ stored_of limit room b → (lacks_room limit room b ≡ false) × BlockGood limit b
   is-good n e =
       let h = has_room (gives n) e in
       let g = then-gives (block_of limit b) (λ hs. gives (length hs)) n h.1 in

@@ -4,7 +4,7 @@ use Prim.Native.Nat.{ℕ, ◌+◌, ◌-◌, ◌*◌, ◌≤◌, ◌<◌}
 use mathlib.Core.Path.{◌≡◌, refl, sym, ap, ◌∙◌}
 use mathlib.Core.Bool.{Bool, true, false, ◌&&◌}
 use mathlib.Core.List.{List, [], ◌∷◌, ◌++◌}
-use mathlib.Core.Option.{Option, none, some}
+use Rattle.std.proofs.Common.{Option, None, Some}
 use native.Mathlib.Omega.{arith}
 use lib.Dec.{eqb, leb, ltb}
 use lib.ListN.{length, take, drop, get_or, length-take, length-drop, drop_of_length-le}
@@ -160,8 +160,8 @@ module _ (b : List ℕ) where
           (o : Option (List Header)) → many_for 64 o ≡ true
           → is_good (then (need (leb (length b) 4096) 20 (then (given o 20) (λ hs. need (different (names hs)) 20 (gives hs)))) (λ hs. need (leb (length hs) 32) 20 (mounts_from 0 hs)))
           ≡ false
-      by none q = cc
-      by (some hs) q =
+      by None q = cc
+      by (Some hs) q =
           let h : 64 < 2 * length hs = ltb-true 64 (2 * length hs) q in
           rw (and_left (leb (length b) 4096) (many_for 64 (headers_of b)) e)
           (many hs (different (names hs)) (lt-leb (length hs) 32 (omega arith)))

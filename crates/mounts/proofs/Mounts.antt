@@ -5,7 +5,7 @@ use Prim.{absurd}
 use mathlib.Core.Path.{◌≡◌, refl, sym, ap, ◌∙◌}
 use mathlib.Core.Bool.{Bool, true, false, false≢true, cond, ◌&&◌, ◌||◌}
 use mathlib.Core.List.{List, [], ◌∷◌, ◌++◌}
-use mathlib.Core.Option.{Option, none, some}
+use Rattle.std.proofs.Common.{Option, None, Some}
 use native.Mathlib.Nat.{le_refl, le_trans}
 use native.Mathlib.Omega.{arith}
 use lib.Dec.{eqb, leb}
@@ -59,43 +59,43 @@ fits-length name path e = omega (arith, length-append name (drop (length name) p
 -- what is true of each mount that fits is true of the one that wins
 won :
     (P : Mount → Type 0) (path : List ℕ) → ((m : Mount) → fits m.name path ≡ true → P m) → (ms : List Mount) (o : Mount)
-    → mount_of ms path ≡ some o → P o
+    → mount_of ms path ≡ Some o → P o
 unfolding mount_of
 won P path f [] o e = absurd (let z : ◌≡◌ {A = ℕ} 0 1 = cc in omega arith)
 won P path f (m ∷ ms) o e = by (fits m.name path) refl (mount_of ms path) e (won P path f ms o)
   where
-    is : (a : Mount) → P a → some a ≡ some o → P o
+    is : (a : Mount) → P a → Some a ≡ Some o → P o
     is a p q =
         let z : a ≡ o = cc in
         rw (← z) p
 
-    longest : (g : Mount) (u : Bool) → P m → (some g ≡ some o → P o) → cond u (some m) (some g) ≡ some o → P o
+    longest : (g : Mount) (u : Bool) → P m → (Some g ≡ Some o → P o) → cond u (Some m) (Some g) ≡ Some o → P o
     longest g true p q r = is m p r
     longest g false p q r = q r
 
     by :
-        (t : Bool) → fits m.name path ≡ t → (w : Option Mount) → cond t (longer m w) w ≡ some o → (w ≡ some o → P o) → P o
-    by true q none r ih = is m (f m q) r
-    by true q (some g) r ih = longest g (leb (length g.name) (length m.name)) (f m q) ih r
+        (t : Bool) → fits m.name path ≡ t → (w : Option Mount) → cond t (longer m w) w ≡ Some o → (w ≡ Some o → P o) → P o
+    by true q None r ih = is m (f m q) r
+    by true q (Some g) r ih = longest g (leb (length g.name) (length m.name)) (f m q) ih r
     by false q w r ih = ih r
 
 pub route-is-path : RouteIsPath
 route-is-path ms path m e = won (λ o. o.name ++ drop (length o.name) path ≡ path) path (λ o f. fits-front o.name path f) ms m e
 
-not-longer : (ms : List Mount) (path : List ℕ) (o : Mount) → mount_of ms path ≡ some o → length o.name ≤ length path
+not-longer : (ms : List Mount) (path : List ℕ) (o : Mount) → mount_of ms path ≡ Some o → length o.name ≤ length path
 not-longer ms path o e = won (λ m. length m.name ≤ length path) path (λ m f. fits-length m.name path f) ms o e
 
 -- A path that is a mount's name.
 
 module _ (path : List ℕ) where
   -- a mount with the path as its name
-  named-so : (ms : List Mount) (o : Mount) → mount_named path ms ≡ some o → o.name ≡ path
+  named-so : (ms : List Mount) (o : Mount) → mount_named path ms ≡ Some o → o.name ≡ path
   unfolding mount_named
   named-so [] o e = cc
   named-so (m ∷ ms) o e = by (same_bytes m.name path) refl e (named-so ms o)
     where
       by :
-          (t : Bool) → same_bytes m.name path ≡ t → cond t (some m) (mount_named path ms) ≡ some o → (mount_named path ms ≡ some o → o.name ≡ path)
+          (t : Bool) → same_bytes m.name path ≡ t → cond t (Some m) (mount_named path ms) ≡ Some o → (mount_named path ms ≡ Some o → o.name ≡ path)
           → o.name ≡ path
       by true q f ih =
           let z : m ≡ o = cc in
@@ -103,25 +103,25 @@ module _ (path : List ℕ) where
       by false q f ih = ih f
 
   -- before mounts among which one has the path as its name
-  shorter-loses : (m o : Mount) → o.name ≡ path → (t : Bool) → begins (m.name ++ 47 ∷ []) path ≡ t → cond t (longer m (some o)) (some o) ≡ some o
+  shorter-loses : (m o : Mount) → o.name ≡ path → (t : Bool) → begins (m.name ++ 47 ∷ []) path ≡ t → cond t (longer m (Some o)) (Some o) ≡ Some o
   shorter-loses m o e true q =
       let l : length m.name < length o.name = omega (arith, begins-length (m.name ++ 47 ∷ []) path q, length-append m.name (47 ∷ []), ap length e) in
       rw (lt-leb (length o.name) (length m.name) l)
   shorter-loses m o e false q = refl
 
-  longest-first : (m : Mount) (o : Option Mount) → ((g : Mount) → o ≡ some g → length g.name ≤ length m.name) → longer m o ≡ some m
-  longest-first m none h = refl
-  longest-first m (some g) h = rw (le-leb (length g.name) (length m.name) (h g refl))
+  longest-first : (m : Mount) (o : Option Mount) → ((g : Mount) → o ≡ Some g → length g.name ≤ length m.name) → longer m o ≡ Some m
+  longest-first m None h = refl
+  longest-first m (Some g) h = rw (le-leb (length g.name) (length m.name) (h g refl))
 
-  pub path-named : (ms : List Mount) (o : Mount) → mount_named path ms ≡ some o → mount_of ms path ≡ some o
+  pub path-named : (ms : List Mount) (o : Mount) → mount_named path ms ≡ Some o → mount_of ms path ≡ Some o
   unfolding mount_of mount_named
   path-named [] o e = cc
   path-named (m ∷ ms) o e = by (same_bytes m.name path) refl e (path-named ms o) (named-so ms o)
     where
       by :
-          (t : Bool) → same_bytes m.name path ≡ t → cond t (some m) (mount_named path ms) ≡ some o
-          → (mount_named path ms ≡ some o → mount_of ms path ≡ some o) → (mount_named path ms ≡ some o → o.name ≡ path)
-          → cond (t || begins (m.name ++ 47 ∷ []) path) (longer m (mount_of ms path)) (mount_of ms path) ≡ some o
+          (t : Bool) → same_bytes m.name path ≡ t → cond t (Some m) (mount_named path ms) ≡ Some o
+          → (mount_named path ms ≡ Some o → mount_of ms path ≡ Some o) → (mount_named path ms ≡ Some o → o.name ≡ path)
+          → cond (t || begins (m.name ++ 47 ∷ []) path) (longer m (mount_of ms path)) (mount_of ms path) ≡ Some o
       by true q f ih n =
           let z : m.name ≡ path = same_true m.name path q in
           longest-first m (mount_of ms path) (λ g h. rw z (not-longer ms path g h)) ∙ f
@@ -131,8 +131,8 @@ module _ (path : List ℕ) where
 
 -- what a name says of the path without its last segment, if there is one
 abbrev fits_in : List ℕ → Option (List ℕ) → Bool
-fits_in name none = false
-fits_in name (some t) = fits name t
+fits_in name None = false
+fits_in name (Some t) = fits name t
 
 both_first : (t a b : Bool) → t && (a || b) ≡ (t && a) || (t && b)
 both_first true a b = refl
@@ -152,83 +152,83 @@ begins-shortened [] [] = refl
 begins-shortened [] (b ∷ s) = rw (slash-either b) (by (shortened s) (eqb b 47) refl)
   where
     by : (o : Option (List ℕ)) (t : Bool) → eqb b 47 ≡ t → eqb b 47 && true ≡ fits_in [] (before_slash b o)
-    by (some t) u q = rw (slash-either b)
-    by none true q = simp q
-    by none false q = simp q
+    by (Some t) u q = rw (slash-either b)
+    by None true q = simp q
+    by None false q = simp q
 begins-shortened (c ∷ name) [] = refl
 begins-shortened (c ∷ name) (b ∷ s) = by (shortened s) (begins-shortened name s)
   where
-    none_left : (t : Bool) → fits_in (c ∷ name) (cond {A = Option (List ℕ)} t (some []) none) ≡ false
+    none_left : (t : Bool) → fits_in (c ∷ name) (cond {A = Option (List ℕ)} t (Some []) None) ≡ false
     none_left true = refl
     none_left false = refl
 
     by : (o : Option (List ℕ)) → begins (name ++ 47 ∷ []) s ≡ fits_in name o → eqb c b && begins (name ++ 47 ∷ []) s ≡ fits_in (c ∷ name) (before_slash b o)
-    by none e = rw e (and-false (eqb c b) ∙ sym (none_left (eqb b 47)))
-    by (some t) e = rw e (both_first (eqb c b) (same_bytes name t) (begins (name ++ 47 ∷ []) t))
+    by None e = rw e (and-false (eqb c b) ∙ sym (none_left (eqb b 47)))
+    by (Some t) e = rw e (both_first (eqb c b) (same_bytes name t) (begins (name ++ 47 ∷ []) t))
 
 -- no mount has the path as its name
 module _ (path : List ℕ) where
-  pub last-segment : (ms : List Mount) (t : List ℕ) → mount_named path ms ≡ none → shortened path ≡ some t → mount_of ms path ≡ mount_of ms t
+  pub last-segment : (ms : List Mount) (t : List ℕ) → mount_named path ms ≡ None → shortened path ≡ Some t → mount_of ms path ≡ mount_of ms t
   unfolding mount_of mount_named
   last-segment [] t e h = refl
   last-segment (m ∷ ms) t e h = by (same_bytes m.name path) e (last-segment ms t)
     where
       by :
-          (q : Bool) → cond q (some m) (mount_named path ms) ≡ none
-          → (mount_named path ms ≡ none → shortened path ≡ some t → mount_of ms path ≡ mount_of ms t)
+          (q : Bool) → cond q (Some m) (mount_named path ms) ≡ None
+          → (mount_named path ms ≡ None → shortened path ≡ Some t → mount_of ms path ≡ mount_of ms t)
           → cond (q || begins (m.name ++ 47 ∷ []) path) (longer m (mount_of ms path)) (mount_of ms path)
           ≡ cond (fits m.name t) (longer m (mount_of ms t)) (mount_of ms t)
       by true f ih = cc
       by false f ih = rw (begins-shortened m.name path ∙ ap (fits_in m.name) h, ih f h)
 
-  pub no-segment : (ms : List Mount) → mount_named path ms ≡ none → shortened path ≡ none → mount_of ms path ≡ none
+  pub no-segment : (ms : List Mount) → mount_named path ms ≡ None → shortened path ≡ None → mount_of ms path ≡ None
   unfolding mount_of mount_named
   no-segment [] e h = refl
   no-segment (m ∷ ms) e h = by (same_bytes m.name path) e (no-segment ms)
     where
       by :
-          (q : Bool) → cond q (some m) (mount_named path ms) ≡ none
-          → (mount_named path ms ≡ none → shortened path ≡ none → mount_of ms path ≡ none)
-          → cond (q || begins (m.name ++ 47 ∷ []) path) (longer m (mount_of ms path)) (mount_of ms path) ≡ none
+          (q : Bool) → cond q (Some m) (mount_named path ms) ≡ None
+          → (mount_named path ms ≡ None → shortened path ≡ None → mount_of ms path ≡ None)
+          → cond (q || begins (m.name ++ 47 ∷ []) path) (longer m (mount_of ms path)) (mount_of ms path) ≡ None
       by true f ih = cc
       by false f ih = rw (begins-shortened m.name path ∙ ap (fits_in m.name) h, ih f h)
 
 -- The path without its last segment.
 
-before-shorter : (b : ℕ) (n : ℕ) (o : Option (List ℕ)) (t : List ℕ) → ((u : List ℕ) → o ≡ some u → length u < n) → before_slash b o ≡ some t → length t < suc n
-before-shorter b n (some u) t h e =
+before-shorter : (b : ℕ) (n : ℕ) (o : Option (List ℕ)) (t : List ℕ) → ((u : List ℕ) → o ≡ Some u → length u < n) → before_slash b o ≡ Some t → length t < suc n
+before-shorter b n (Some u) t h e =
     let z : b ∷ u ≡ t = cc in
     omega (arith, ap length z, h u refl)
-before-shorter b n none t h e = by (eqb b 47) e
+before-shorter b n None t h e = by (eqb b 47) e
   where
-    by : (q : Bool) → cond {A = Option (List ℕ)} q (some []) none ≡ some t → length t < suc n
+    by : (q : Bool) → cond {A = Option (List ℕ)} q (Some []) None ≡ Some t → length t < suc n
     by true f =
         let z : [] ≡ t = cc in
         omega (arith, ap length z)
     by false f = absurd (let z : ◌≡◌ {A = ℕ} 0 1 = cc in omega arith)
 
-pub shortened-shorter : (s t : List ℕ) → shortened s ≡ some t → length t < length s
+pub shortened-shorter : (s t : List ℕ) → shortened s ≡ Some t → length t < length s
 unfolding shortened
 shortened-shorter [] t e = absurd (let z : ◌≡◌ {A = ℕ} 0 1 = cc in omega arith)
 shortened-shorter (b ∷ s) t e = before-shorter b (length s) (shortened s) t (λ u. shortened-shorter s u) e
 
-last_byte : (s : List ℕ) (b : ℕ) → shortened (s ++ b ∷ []) ≡ cond (eqb b 47) (some s) (shortened s)
+last_byte : (s : List ℕ) (b : ℕ) → shortened (s ++ b ∷ []) ≡ cond (eqb b 47) (Some s) (shortened s)
 unfolding shortened
 last_byte [] b = refl
 last_byte (a ∷ s) b = ap (before_slash a) (last_byte s b) ∙ by (eqb b 47)
   where
-    by : (t : Bool) → before_slash a (cond t (some s) (shortened s)) ≡ cond t (some (a ∷ s)) (before_slash a (shortened s))
+    by : (t : Bool) → before_slash a (cond t (Some s) (shortened s)) ≡ cond t (Some (a ∷ s)) (before_slash a (shortened s))
     by true = refl
     by false = refl
 
 -- for a loop that goes back byte by byte
 module _ (s : List ℕ) (n : ℕ) (p : 0 < n) (h : n ≤ length s) where
-  back_one : shortened (take n s) ≡ cond (eqb (get_or s (n - 1) 0) 47) (some (take (n - 1) s)) (shortened (take (n - 1) s))
+  back_one : shortened (take n s) ≡ cond (eqb (get_or s (n - 1) 0) 47) (Some (take (n - 1) s)) (shortened (take (n - 1) s))
   back_one =
       let e : n ≡ suc (n - 1) = omega arith in
       ap (λ (k : ℕ). shortened (take k s)) e ∙ rw (take-suc s (n - 1) 0 (omega arith)) (last_byte (take (n - 1) s) (get_or s (n - 1) 0))
 
-  pub at-slash : get_or s (n - 1) 0 ≡ 47 → shortened (take n s) ≡ some (take (n - 1) s)
+  pub at-slash : get_or s (n - 1) 0 ≡ 47 → shortened (take n s) ≡ Some (take (n - 1) s)
   at-slash e = back_one ∙ rw (eq-eqb (get_or s (n - 1) 0) 47 e)
 
   pub no_slash : (get_or s (n - 1) 0 ≡ 47 → ⊥) → shortened (take n s) ≡ shortened (take (n - 1) s)
@@ -236,37 +236,37 @@ module _ (s : List ℕ) (n : ℕ) (p : 0 < n) (h : n ≤ length s) where
 
 -- a slash less
 
-before-counts : (b n : ℕ) (o : Option (List ℕ)) (t : List ℕ) → ((u : List ℕ) → o ≡ some u → n ≡ suc (count 47 u)) → (o ≡ none → n ≡ 0) → before_slash b o ≡ some t → cond (eqb b 47) (suc n) n ≡ suc (count 47 t)
+before-counts : (b n : ℕ) (o : Option (List ℕ)) (t : List ℕ) → ((u : List ℕ) → o ≡ Some u → n ≡ suc (count 47 u)) → (o ≡ None → n ≡ 0) → before_slash b o ≡ Some t → cond (eqb b 47) (suc n) n ≡ suc (count 47 t)
 unfolding count
-before-counts b n (some u) t h g e =
+before-counts b n (Some u) t h g e =
     let z : b ∷ u ≡ t = cc in
     rw (← z) (by (eqb b 47) (h u refl))
   where
     by : (q : Bool) → n ≡ suc (count 47 u) → cond q (suc n) n ≡ suc (cond q (suc (count 47 u)) (count 47 u))
     by true k = ap suc k
     by false k = k
-before-counts b n none t h g e = by (eqb b 47) e
+before-counts b n None t h g e = by (eqb b 47) e
   where
-    by : (q : Bool) → cond {A = Option (List ℕ)} q (some []) none ≡ some t → cond q (suc n) n ≡ suc (count 47 t)
+    by : (q : Bool) → cond {A = Option (List ℕ)} q (Some []) None ≡ Some t → cond q (suc n) n ≡ suc (count 47 t)
     by true f =
         let z : [] ≡ t = cc in
         rw (← z) (ap suc (g refl))
     by false f = cc
 
-before-none : (b n : ℕ) (o : Option (List ℕ)) → (o ≡ none → n ≡ 0) → before_slash b o ≡ none → cond (eqb b 47) (suc n) n ≡ 0
-before-none b n (some u) g e = cc
-before-none b n none g e = by (eqb b 47) e
+before-none : (b n : ℕ) (o : Option (List ℕ)) → (o ≡ None → n ≡ 0) → before_slash b o ≡ None → cond (eqb b 47) (suc n) n ≡ 0
+before-none b n (Some u) g e = cc
+before-none b n None g e = by (eqb b 47) e
   where
-    by : (q : Bool) → cond {A = Option (List ℕ)} q (some []) none ≡ none → cond q (suc n) n ≡ 0
+    by : (q : Bool) → cond {A = Option (List ℕ)} q (Some []) None ≡ None → cond q (suc n) n ≡ 0
     by true f = cc
     by false f = g refl
 
-no-slash-counts : (s : List ℕ) → shortened s ≡ none → count 47 s ≡ 0
+no-slash-counts : (s : List ℕ) → shortened s ≡ None → count 47 s ≡ 0
 unfolding shortened count
 no-slash-counts [] e = refl
 no-slash-counts (b ∷ s) e = before-none b (count 47 s) (shortened s) (no-slash-counts s) e
 
-pub shortened-counts : (s t : List ℕ) → shortened s ≡ some t → count 47 s ≡ suc (count 47 t)
+pub shortened-counts : (s t : List ℕ) → shortened s ≡ Some t → count 47 s ≡ suc (count 47 t)
 unfolding shortened count
 shortened-counts [] t e = cc
 shortened-counts (b ∷ s) t e = before-counts b (count 47 s) (shortened s) t (λ u. shortened-counts s u) (no-slash-counts s) e
@@ -274,15 +274,15 @@ shortened-counts (b ∷ s) t e = before-counts b (count 47 s) (shortened s) t (�
 -- Trying path after path.
 
 module _ (ms : List Mount) (path : List ℕ) where
-  pub tried_here : (m : Mount) → mount_named path ms ≡ some m → tried ms path ≡ some m
+  pub tried_here : (m : Mount) → mount_named path ms ≡ Some m → tried ms path ≡ Some m
   unfolding tried_in
   tried_here m e = rw e
 
-  pub tried-last : mount_named path ms ≡ none → shortened path ≡ none → tried ms path ≡ none
+  pub tried-last : mount_named path ms ≡ None → shortened path ≡ None → tried ms path ≡ None
   unfolding tried_in
   tried-last e s = rw (e, s)
 
-  pub tried-on : (t : List ℕ) → mount_named path ms ≡ none → shortened path ≡ some t → tried ms path ≡ tried ms t
+  pub tried-on : (t : List ℕ) → mount_named path ms ≡ None → shortened path ≡ Some t → tried ms path ≡ tried ms t
   unfolding tried_in
   tried-on t e s = rw (e, s) (ap (λ (n : ℕ). tried_in n ms t) (shortened-counts path t s))
 
@@ -295,9 +295,9 @@ tried-enough (suc n) ms path h = by (mount_named path ms) (shortened path) refl 
         (v : Option Mount) (o : Option (List ℕ)) → mount_named path ms ≡ v → shortened path ≡ o
         → ((t : List ℕ) → count 47 t < n → tried_in n ms t ≡ mount_of ms t)
         → or_shorter v (tried_in n ms) o ≡ mount_of ms path
-    by (some m) o e f ih = sym (path-named path ms m e)
-    by none none e f ih = sym (no-segment path ms e f)
-    by none (some t) e f ih = ih t (omega (arith, shortened-counts path t f)) ∙ sym (last-segment path ms t e f)
+    by (Some m) o e f ih = sym (path-named path ms m e)
+    by None None e f ih = sym (no-segment path ms e f)
+    by None (Some t) e f ih = ih t (omega (arith, shortened-counts path t f)) ∙ sym (last-segment path ms t e f)
 
 pub longest-wins : LongestWins
 longest-wins ms path = tried-enough (suc (count 47 path)) ms path (omega arith)
@@ -305,29 +305,29 @@ longest-wins ms path = tried-enough (suc (count 47 path)) ms path (omega arith)
 -- The mount that wins is the longest that fits.
 
 module _ (path : List ℕ) where
-  pub none_fits : (ms : List Mount) → mount_of ms path ≡ none → All (λ o. fits o.name path ≡ false) ms
+  pub none_fits : (ms : List Mount) → mount_of ms path ≡ None → All (λ o. fits o.name path ≡ false) ms
   unfolding mount_of
   none_fits [] e = no_more
   none_fits (m ∷ ms) e = by (fits m.name path) refl (mount_of ms path) e (none_fits ms)
     where
-      never : (g : Mount) (u : Bool) → cond u (some m) (some g) ≡ none → ⊥
+      never : (g : Mount) (u : Bool) → cond u (Some m) (Some g) ≡ None → ⊥
       never g true r = let z : ◌≡◌ {A = ℕ} 0 1 = cc in omega arith
       never g false r = let z : ◌≡◌ {A = ℕ} 0 1 = cc in omega arith
 
       by :
-          (t : Bool) → fits m.name path ≡ t → (w : Option Mount) → cond t (longer m w) w ≡ none
-          → (w ≡ none → All (λ o. fits o.name path ≡ false) ms) → All (λ o. fits o.name path ≡ false) (m ∷ ms)
-      by true q none r ih = absurd (never m true r)
-      by true q (some g) r ih = absurd (never g (leb (length g.name) (length m.name)) r)
+          (t : Bool) → fits m.name path ≡ t → (w : Option Mount) → cond t (longer m w) w ≡ None
+          → (w ≡ None → All (λ o. fits o.name path ≡ false) ms) → All (λ o. fits o.name path ≡ false) (m ∷ ms)
+      by true q None r ih = absurd (never m true r)
+      by true q (Some g) r ih = absurd (never g (leb (length g.name) (length m.name)) r)
       by false q w r ih = q & ih r
 
-  pub wins : (ms : List Mount) (m : Mount) → mount_of ms path ≡ some m → Longest ms path m
+  pub wins : (ms : List Mount) (m : Mount) → mount_of ms path ≡ Some m → Longest ms path m
   unfolding mount_of
   wins [] m e = absurd (let z : ◌≡◌ {A = ℕ} 0 1 = cc in omega arith)
   wins (h ∷ ms) m e = by (fits h.name path) refl (mount_of ms path) refl e (wins ms)
     where
       pick :
-          (g : Mount) (u : Bool) → leb (length g.name) (length h.name) ≡ u → fits h.name path ≡ true → cond u (some h) (some g) ≡ some m
+          (g : Mount) (u : Bool) → leb (length g.name) (length h.name) ≡ u → fits h.name path ≡ true → cond u (Some h) (Some g) ≡ Some m
           → Longest ms path g → Longest (h ∷ ms) path m
       pick g true u q r l =
           let z : h ≡ m = cc in
@@ -341,9 +341,9 @@ module _ (path : List ℕ) where
           rw (← z) (record { among = later l.among; it_fits = l.it_fits; longest = (λ f. t) & l.longest })
 
       by :
-          (t : Bool) → fits h.name path ≡ t → (w : Option Mount) → mount_of ms path ≡ w → cond t (longer h w) w ≡ some m
-          → ((o : Mount) → w ≡ some o → Longest ms path o) → Longest (h ∷ ms) path m
-      by true q none p r ih =
+          (t : Bool) → fits h.name path ≡ t → (w : Option Mount) → mount_of ms path ≡ w → cond t (longer h w) w ≡ Some m
+          → ((o : Mount) → w ≡ Some o → Longest ms path o) → Longest (h ∷ ms) path m
+      by true q None p r ih =
           let z : h ≡ m = cc in
           rw (← z)
           (record {
@@ -351,7 +351,7 @@ module _ (path : List ℕ) where
             it_fits = q;
             longest = (λ f. le_refl (length h.name)) & all-implies (λ o n f. absurd (false≢true (sym n ∙ f))) (none_fits ms p);
           })
-      by true q (some g) p r ih = pick g (leb (length g.name) (length h.name)) refl q r (ih g refl)
+      by true q (Some g) p r ih = pick g (leb (length g.name) (length h.name)) refl q r (ih g refl)
       by false q w p r ih =
           let l = ih m r in
           record { among = later l.among; it_fits = l.it_fits; longest = (λ f. absurd (false≢true (sym q ∙ f))) & l.longest }

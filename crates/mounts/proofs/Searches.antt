@@ -4,7 +4,7 @@ use Prim.Native.Nat.{ℕ, ◌+◌, ◌<◌}
 use mathlib.Core.Path.{◌≡◌, refl, sym, ap, subst, ◌∙◌}
 use mathlib.Core.Bool.{Bool, true, false, cond}
 use mathlib.Core.List.{List, [], ◌∷◌}
-use mathlib.Core.Option.{Option, none, some}
+use Rattle.std.proofs.Common.{Option, None, Some}
 use native.Mathlib.Omega.{arith}
 use lib.ListN.{length, take, length-take}
 use Rattle.octets.specs.Outcome.{gives, is_good, then, given}
@@ -22,7 +22,7 @@ use Rattle.mounts.proofs.Mounts.{shortened-shorter, tried_here, tried-last, trie
 use Rattle.mounts.proofs.Pools.{mount-made, Held, held}
 
 -- the path without its last segment is a front of the path
-pub front-shorter : (path : List ℕ) (k : ℕ) → shortened path ≡ some (take k path) → k < length path
+pub front-shorter : (path : List ℕ) (k : ℕ) → shortened path ≡ Some (take k path) → k < length path
 front-shorter path k e = omega (arith, length-take k path, shortened-shorter path (take k path) e)
 
 -- what a lookup says, by the answer
@@ -33,22 +33,22 @@ looked-up block name p q e z = sym e ∙ ap (λ (x : Place). gives (place_option
 
 pub record Named (name : List ℕ) (p : Part) (v : List ℕ) (ms : List Mount) : Type 0 where
   pub m : Mount
-  pub is : mount_named name ms ≡ some m
+  pub is : mount_named name ms ≡ Some m
   pub made : mount_at p.start (record { name = name; value = v }) ≡ gives m
 
 abbrev NamedBy : List ℕ → Option Part → Option (List ℕ) → List Mount → Type 0
-NamedBy name (some p) (some v) ms = Named name p v ms
-NamedBy name (some p) none ms = ⊥
-NamedBy name none (some v) ms = ⊥
-NamedBy name none none ms = mount_named name ms ≡ none
+NamedBy name (Some p) (Some v) ms = Named name p v ms
+NamedBy name (Some p) None ms = ⊥
+NamedBy name None (Some v) ms = ⊥
+NamedBy name None None ms = mount_named name ms ≡ None
 
 -- a mount of another name before them changes nothing
 named-later : (name : List ℕ) (m : Mount) (ms : List Mount) → same_bytes m.name name ≡ false → (o : Option Part) (v : Option (List ℕ)) → NamedBy name o v ms → NamedBy name o v (m ∷ ms)
 unfolding mount_named
-named-later name m ms q (some p) (some v) x = record { m = x.m; is = rw q x.is; made = x.made }
-named-later name m ms q none none x = rw q x
-named-later name m ms q none (some v) x = elim x [ ]
-named-later name m ms q (some p) none x = elim x [ ]
+named-later name m ms q (Some p) (Some v) x = record { m = x.m; is = rw q x.is; made = x.made }
+named-later name m ms q None None x = rw q x
+named-later name m ms q None (Some v) x = elim x [ ]
+named-later name m ms q (Some p) None x = elim x [ ]
 
 named : (name : List ℕ) (i : ℕ) (hs : List Header) (ms : List Mount) → mounts_from i hs ≡ gives ms → NamedBy name (place_in name i hs) (value_in name hs) ms
 unfolding mounts_from place_in value_in mount_named
@@ -65,7 +65,7 @@ named name i (h ∷ hs) ms e =
         (m : Mount) (rest : List Mount) → h.name ≡ m.name → mount_at (i + length h.name + 1) h ≡ gives m → (t : Bool) → same_bytes h.name name ≡ t
         → (let k = i + length h.name + 1 + length h.value + 1 in
         NamedBy name (place_in name k hs) (value_in name hs) rest
-        → NamedBy name (cond t (some (record { start = i + length h.name + 1; len = length h.value })) (place_in name k hs)) (cond t (some h.value) (value_in name hs)) (m ∷ rest))
+        → NamedBy name (cond t (Some (record { start = i + length h.name + 1; len = length h.value })) (place_in name k hs)) (cond t (Some h.value) (value_in name hs)) (m ∷ rest))
     by m rest n d true q ih =
         let z : h.name ≡ name = same_true h.name name q in
         record {
@@ -107,14 +107,14 @@ module _ (mounts path : List ℕ) (good : is_good (mounts_of mounts) ≡ true) w
   searched : (o : Option Mount) → tried g.it path ≡ o → search_of mounts path ≡ then (given o 19) (λ m. gives (place_of m))
   searched o e = rw (g.is, e)
 
-  pub path-is-mount : (p : Part) → lookup_of mounts path ≡ gives (some p) → place_by (length path) p.start (part_in mounts p) ≡ search_of mounts path
+  pub path-is-mount : (p : Part) → lookup_of mounts path ≡ gives (Some p) → place_by (length path) p.start (part_in mounts p) ≡ search_of mounts path
   path-is-mount p e =
-      let n = looked (some p) e in
+      let n = looked (Some p) e in
       let d = mount-made p.start (record { name = path; value = part_in mounts p }) n.m n.made in
-      rw d.read (ap (λ (m : Mount). gives (place_of m)) d.is) ∙ sym (searched (some n.m) (tried_here g.it path n.m n.is))
+      rw d.read (ap (λ (m : Mount). gives (place_of m)) d.is) ∙ sym (searched (Some n.m) (tried_here g.it path n.m n.is))
 
-  pub no-mount : lookup_of mounts path ≡ gives none → shortened path ≡ none → mount_outcome (Refused 19) ≡ search_of mounts path
-  no-mount e s = sym (searched none (tried-last g.it path (looked none e) s))
+  pub no-mount : lookup_of mounts path ≡ gives None → shortened path ≡ None → mount_outcome (Refused 19) ≡ search_of mounts path
+  no-mount e s = sym (searched None (tried-last g.it path (looked None e) s))
 
-  pub shorter-path : (t : List ℕ) → lookup_of mounts path ≡ gives none → shortened path ≡ some t → search_of mounts t ≡ search_of mounts path
-  shorter-path t e s = rw (g.is, tried-on g.it path t (looked none e) s)
+  pub shorter-path : (t : List ℕ) → lookup_of mounts path ≡ gives None → shortened path ≡ Some t → search_of mounts t ≡ search_of mounts path
+  shorter-path t e s = rw (g.is, tried-on g.it path t (looked None e) s)

@@ -5,7 +5,7 @@ use Prim.{absurd}
 use mathlib.Core.Path.{◌≡◌, refl, sym, ap, ◌∙◌}
 use mathlib.Core.Bool.{Bool, true, false, cond, not}
 use mathlib.Core.List.{List, [], ◌∷◌}
-use mathlib.Core.Option.{Option, none, some}
+use Rattle.std.proofs.Common.{Option, None, Some}
 use native.Mathlib.Omega.{arith}
 use lib.Dec.{eqb, leb, ltb}
 use lib.ListN.{length, take, drop}
@@ -23,27 +23,27 @@ use Rattle.octets.proofs.Scans.{run-le}
 use Rattle.mounts.specs.Value.{pool_of, limit_by, limit_of, value_of}
 
 -- no number has a byte in it that is no digit
-no_number : (x : ℕ) → is_digit x ≡ false → (v : ℕ) (s : List ℕ) → run (other x) s < length s → number_from v s ≡ none
+no_number : (x : ℕ) → is_digit x ≡ false → (v : ℕ) (s : List ℕ) → run (other x) s < length s → number_from v s ≡ None
 unfolding run number_from
 no_number x d v [] h = absurd (omega arith)
 no_number x d v (b ∷ s) h = by (eqb b x) refl h (no_number x d (v * 10 + (b - 48)) s)
   where
-    stops : (t : Bool) → number_from (v * 10 + (b - 48)) s ≡ none → cond t (number_from (v * 10 + (b - 48)) s) none ≡ none
+    stops : (t : Bool) → number_from (v * 10 + (b - 48)) s ≡ None → cond t (number_from (v * 10 + (b - 48)) s) None ≡ None
     stops true e = e
     stops false e = refl
 
     by :
         (t : Bool) → eqb b x ≡ t → cond (not t) (suc (run (other x) s)) 0 < suc (length s)
-        → (run (other x) s < length s → number_from (v * 10 + (b - 48)) s ≡ none)
-        → cond (is_digit b) (number_from (v * 10 + (b - 48)) s) none ≡ none
+        → (run (other x) s < length s → number_from (v * 10 + (b - 48)) s ≡ None)
+        → cond (is_digit b) (number_from (v * 10 + (b - 48)) s) None ≡ None
     by true q k ih = rw (ap is_digit (eqb-true b x q) ∙ d)
     by false q k ih = stops (is_digit b) (ih (omega arith))
 
-no-numbers : (s : List ℕ) → run (other 59) s < length s → number_of s ≡ none
+no-numbers : (s : List ℕ) → run (other 59) s < length s → number_of s ≡ None
 unfolding is_digit
 no-numbers s h = by (within 1 10 (length s))
   where
-    by : (t : Bool) → cond t (number_from 0 s) none ≡ none
+    by : (t : Bool) → cond t (number_from 0 s) None ≡ None
     by true = no_number 59 refl 0 s h
     by false = refl
 
@@ -106,15 +106,15 @@ module _ (v : List ℕ) (end : ℕ) (found : end ≡ 0 + run (other 59) v) where
       by-limit : (o : Option ℕ) → number ≡ o → value_of v ≡ then (then (given o 20) (λ n. need (leb n 1048576) 20 (gives n))) (λ n. gives (record { pool_length = end; limit = n }))
       by-limit o e = filled ∙ rw (behind ∙ ap (λ (x : Option ℕ). then (given x 20) (λ n. need (leb n 1048576) 20 (gives n))) e)
 
-      pub bad-number : number ≡ none → value_of v ≡ refused 20
-      bad-number e = by-limit none e
+      pub bad-number : number ≡ None → value_of v ≡ refused 20
+      bad-number e = by-limit None e
 
-      module _ (n : ℕ) (e : number ≡ some n) where
+      module _ (n : ℕ) (e : number ≡ Some n) where
         pub above-limit : 1048576 < n → value_of v ≡ refused 20
-        above-limit l = by-limit (some n) e ∙ rw (lt-leb n 1048576 l)
+        above-limit l = by-limit (Some n) e ∙ rw (lt-leb n 1048576 l)
 
         pub is-limit : n ≤ 1048576 → value_of v ≡ gives (record { pool_length = end; limit = n })
-        is-limit l = by-limit (some n) e ∙ rw (le-leb n 1048576 l)
+        is-limit l = by-limit (Some n) e ∙ rw (le-leb n 1048576 l)
 
 -- a limit is never above the old one
 pub limit-small : (v : List ℕ) (n : ℕ) → limit_of v ≡ gives n → n ≤ 1048576

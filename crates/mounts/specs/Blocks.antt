@@ -1,7 +1,6 @@
 -- What every block is that the gateway is lent; and what the code's answer says of it and of the list for the places of its names.
 -- Assumes nothing.
-use Rattle.std.specs.Prelude.{ℕ, ◌*◌, ◌≡◌, Bool, false, cond, ◌&&◌, List, leb, ltb, length}
-use Rattle.std.proofs.Math.Option.{Option, none, some}
+use Rattle.std.specs.Prelude.{ℕ, ◌*◌, ◌≡◌, Bool, false, cond, ◌&&◌, List, leb, ltb, length, Option, None, Some}
 use Rattle.octets.specs.Outcome.{Outcome, refused, gives, then, need, given}
 use Rattle.octets.specs.Lists.{different}
 use Rattle.headers.specs.Block.{Header, names, headers_of, parsed}
@@ -27,8 +26,8 @@ pub record BlockGood (limit : ℕ) (block : List ℕ) : Type 0 where
 
 -- the headers have more names than a list of so many numbers has room for, two numbers for each
 abbrev pub many_for : ℕ → Option (List Header) → Bool
-many_for room none = false
-many_for room (some hs) = ltb room (2 * length hs)
+many_for room None = false
+many_for room (Some hs) = ltb room (2 * length hs)
 
 -- a list is full for a block that is within its limit and well formed, and has more headers than the list has room for
 abbrev pub lacks_room : (limit room : ℕ) → List ℕ → Bool
@@ -36,13 +35,13 @@ lacks_room limit room block = leb (length block) limit && many_for room (headers
 
 -- none where the list is full; else how many headers the block has, or 20
 abbrev pub stored_of : (limit room : ℕ) → List ℕ → Option (Outcome ℕ)
-stored_of limit room block = cond (lacks_room limit room block) none (some (then (block_of limit block) (λ hs. gives (length hs))))
+stored_of limit room block = cond (lacks_room limit room block) None (Some (then (block_of limit block) (λ hs. gives (length hs))))
 
 -- what the code's answer says
 abbrev pub storing_outcome : Storing → Option (Outcome ℕ)
-storing_outcome (Done (Headers n)) = some (gives n)
-storing_outcome (Done Breach) = some (refused 20)
-storing_outcome Full = none
+storing_outcome (Done (Headers n)) = Some (gives n)
+storing_outcome (Done Breach) = Some (refused 20)
+storing_outcome Full = None
 
 -- with the names of the block's headers stored
 abbrev pub StoredBy : List ℕ → List ℕ → Storing → Type 0

@@ -1,7 +1,6 @@
 -- What is claimed of lent blocks and of mounts.
 -- Assumes nothing.
-use Rattle.std.specs.Prelude.{ℕ, ◌+◌, ◌≤◌, ◌≡◌, true, false, List, [], ◌∷◌, ◌++◌, length, take, drop}
-use Rattle.std.proofs.Math.Option.{none, some}
+use Rattle.std.specs.Prelude.{ℕ, ◌+◌, ◌≤◌, ◌≡◌, true, false, List, [], ◌∷◌, ◌++◌, length, take, drop, None, Some}
 use Rattle.octets.specs.Outcome.{refused, gives}
 use Rattle.octets.specs.Lists.{All, NoNul, different}
 use Rattle.headers.specs.Block.{Header, names, parsed}
@@ -26,12 +25,12 @@ pub record BlocksHold : Type 0 where
 -- what the answer of the code that stores names says of the block: the list is full exactly where it lacks room, else the block is refused or
 -- accepted
 pub record BlocksTold : Type 0 where
-  pub full : (limit room : ℕ) (block : List ℕ) → none ≡ stored_of limit room block → lacks_room limit room block ≡ true
+  pub full : (limit room : ℕ) (block : List ℕ) → None ≡ stored_of limit room block → lacks_room limit room block ≡ true
   pub breach :
-      (limit room : ℕ) (block : List ℕ) → some (refused 20) ≡ stored_of limit room block
+      (limit room : ℕ) (block : List ℕ) → Some (refused 20) ≡ stored_of limit room block
       → (lacks_room limit room block ≡ false) × (block_of limit block ≡ refused 20)
   pub good :
-      (limit room : ℕ) (block : List ℕ) (n : ℕ) → some (gives n) ≡ stored_of limit room block
+      (limit room : ℕ) (block : List ℕ) (n : ℕ) → Some (gives n) ≡ stored_of limit room block
       → (lacks_room limit room block ≡ false) × BlockGood limit block
 
 -- Mounts.
@@ -78,8 +77,8 @@ pub record Longest (ms : List Mount) (path : List ℕ) (m : Mount) : Type 0 wher
 
 -- "the longest mount that fits wins", and where none wins none fits
 pub record MountIsLongest : Type 0 where
-  pub wins : (ms : List Mount) (path : List ℕ) (m : Mount) → mount_of ms path ≡ some m → Longest ms path m
-  pub none_fits : (ms : List Mount) (path : List ℕ) → mount_of ms path ≡ none → All (λ o. fits o.name path ≡ false) ms
+  pub wins : (ms : List Mount) (path : List ℕ) (m : Mount) → mount_of ms path ≡ Some m → Longest ms path m
+  pub none_fits : (ms : List Mount) (path : List ℕ) → mount_of ms path ≡ None → All (λ o. fits o.name path ≡ false) ms
 
 -- trying the path, then the path without its last segment, and so on, no more than one path more than the path has slashes, finds the mount
 -- that wins: "the longest mount that fits wins"
@@ -89,5 +88,5 @@ LongestWins = (ms : List Mount) (path : List ℕ) → tried ms path ≡ mount_of
 -- SCRIPT_NAME and PATH_INFO are the path again: "PATH_INFO the rest"
 abbrev pub RouteIsPath : Type 0
 RouteIsPath =
-    (ms : List Mount) (path : List ℕ) (m : Mount) → mount_of ms path ≡ some m
+    (ms : List Mount) (path : List ℕ) (m : Mount) → mount_of ms path ≡ Some m
     → (route_of m path).script_name ++ (route_of m path).path_info ≡ path

@@ -1,7 +1,6 @@
 -- The mounts of a block, and what they make of a path.
 -- Assumes nothing.
-use Rattle.std.specs.Prelude.{ℕ, ◌+◌, Bool, true, false, cond, not, ◌&&◌, ◌||◌, List, [], ◌∷◌, ◌++◌, eqb, leb, length, drop}
-use Rattle.std.proofs.Math.Option.{Option, none, some}
+use Rattle.std.specs.Prelude.{ℕ, ◌+◌, Bool, true, false, cond, not, ◌&&◌, ◌||◌, List, [], ◌∷◌, ◌++◌, eqb, leb, length, drop, Option, None, Some}
 use Rattle.octets.specs.Outcome.{Outcome, gives, then, need, given}
 use Rattle.octets.specs.Compare.{same_bytes}
 use Rattle.headers.specs.Block.{Header}
@@ -53,12 +52,12 @@ fits name path = same_bytes name path || begins (name ++ 47 ∷ []) path
 
 -- the longer name of a mount that fits and of the longest that fits among those after it
 abbrev pub longer : Mount → Option Mount → Option Mount
-longer m none = some m
-longer m (some o) = cond (leb (length o.name) (length m.name)) (some m) (some o)
+longer m None = Some m
+longer m (Some o) = cond (leb (length o.name) (length m.name)) (Some m) (Some o)
 
 -- "the longest mount that fits wins"
 unfoldable pub mount_of : List Mount → List ℕ → Option Mount
-mount_of [] path = none
+mount_of [] path = None
 mount_of (m ∷ ms) path = cond (fits m.name path) (longer m (mount_of ms path)) (mount_of ms path)
 
 -- 19: "no mount fits"

@@ -1,7 +1,6 @@
 -- The search of the mounts for the one that a path goes to: the path is tried as a name, then the path without its last segment.
 -- Assumes nothing.
-use Rattle.std.specs.Prelude.{ℕ, zero, suc, cond, List, [], ◌∷◌, eqb, length, take}
-use Rattle.std.proofs.Math.Option.{Option, none, some}
+use Rattle.std.specs.Prelude.{ℕ, zero, suc, cond, List, [], ◌∷◌, eqb, length, take, Option, None, Some}
 use Rattle.octets.specs.Outcome.{Outcome, refused, gives, then, given}
 use Rattle.octets.specs.Compare.{same_bytes}
 use Rattle.octets.specs.Scan.{count}
@@ -14,32 +13,32 @@ use Rattle.mounts.specs.declared.search.Mount.TheVariants.{Found, Refused}
 
 -- the bytes before the last slash of s, if there is one; a slash is 47
 abbrev pub before_slash : ℕ → Option (List ℕ) → Option (List ℕ)
-before_slash b (some t) = some (b ∷ t)
-before_slash b none = cond (eqb b 47) (some []) none
+before_slash b (Some t) = Some (b ∷ t)
+before_slash b None = cond (eqb b 47) (Some []) None
 
 unfoldable pub shortened : List ℕ → Option (List ℕ)
-shortened [] = none
+shortened [] = None
 shortened (b ∷ s) = before_slash b (shortened s)
 
 -- what the code's answer says
 abbrev pub slash_part : List ℕ → Slash → Option (List ℕ)
-slash_part path (At k) = some (take k path)
-slash_part path Absent = none
+slash_part path (At k) = Some (take k path)
+slash_part path Absent = None
 
 -- the mount with that name: "of equal names the first counts"
 unfoldable pub mount_named : List ℕ → List Mount → Option Mount
-mount_named name [] = none
-mount_named name (m ∷ ms) = cond (same_bytes m.name name) (some m) (mount_named name ms)
+mount_named name [] = None
+mount_named name (m ∷ ms) = cond (same_bytes m.name name) (Some m) (mount_named name ms)
 
 -- the mount of the path, else that of the path without its last segment
 abbrev pub or_shorter : Option Mount → (List ℕ → Option Mount) → Option (List ℕ) → Option Mount
-or_shorter (some m) try t = some m
-or_shorter none try none = none
-or_shorter none try (some t) = try t
+or_shorter (Some m) try t = Some m
+or_shorter None try None = None
+or_shorter None try (Some t) = try t
 
 -- at most n paths are tried
 unfoldable pub tried_in : ℕ → List Mount → List ℕ → Option Mount
-tried_in zero ms path = none
+tried_in zero ms path = None
 tried_in (suc n) ms path = or_shorter (mount_named path ms) (tried_in n ms) (shortened path)
 
 -- each path tried has a slash less than the one before, the last has none: "at most 64 slashes deep", since a path has no more

@@ -4,7 +4,7 @@ use Prim.Native.Nat.{ℕ, suc, ◌+◌, ◌*◌, ◌-◌, ◌/◌, ◌%◌, ◌�
 use mathlib.Core.Path.{◌≡◌, ap, ◌∙◌}
 use mathlib.Core.Bool.{cond}
 use mathlib.Core.List.{List}
-use mathlib.Core.Option.{none, some}
+use Rattle.std.proofs.Common.{None, Some}
 use native.Mathlib.Omega.{arith}
 use lib.ListN.{length, drop, get_or, set, drop_of_length-le}
 use borrow.Author.Tests.{le-leb, lt-leb}
@@ -32,15 +32,15 @@ ten-most i v h l = omega (arith, ten-grows i 9 (omega arith))
 
 -- one byte more at i, after the number v
 module _ (s : List ℕ) (i v : ℕ) (h : i < length s) where
-  number-next : number_from v (drop i s) ≡ cond (is_digit (get_or s i 0)) (number_from (v * 10 + (get_or s i 0 - 48)) (drop (i + 1) s)) none
+  number-next : number_from v (drop i s) ≡ cond (is_digit (get_or s i 0)) (number_from (v * 10 + (get_or s i 0 - 48)) (drop (i + 1) s)) None
   unfolding number_from
   number-next = ap (number_from v) (next s i h)
 
-  pub below-digits : get_or s i 0 < 48 → number_from v (drop i s) ≡ none
+  pub below-digits : get_or s i 0 < 48 → number_from v (drop i s) ≡ None
   unfolding is_digit
   below-digits l = number-next ∙ rw (lt-leb 48 (get_or s i 0) l)
 
-  pub above-digits : 57 < get_or s i 0 → number_from v (drop i s) ≡ none
+  pub above-digits : 57 < get_or s i 0 → number_from v (drop i s) ≡ None
   unfolding is_digit
   above-digits l = number-next ∙ rw (lt-leb (get_or s i 0) 57 l, and-false)
 
@@ -49,7 +49,7 @@ module _ (s : List ℕ) (i v : ℕ) (h : i < length s) where
   digit-more lo hi = number-next ∙ rw (le-leb 48 (get_or s i 0) lo, le-leb (get_or s i 0) 57 hi)
 
 -- no byte is left after the number v
-pub number-end : (s : List ℕ) (i v : ℕ) → length s ≤ i → number_from v (drop i s) ≡ some v
+pub number-end : (s : List ℕ) (i v : ℕ) → length s ≤ i → number_from v (drop i s) ≡ Some v
 unfolding number_from
 number-end s i v h = rw (drop_of_length-le s h)
 

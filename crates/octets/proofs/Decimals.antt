@@ -5,7 +5,7 @@ use Prim.{absurd}
 use mathlib.Core.Path.{◌≡◌, refl, sym, ap, ◌∙◌}
 use mathlib.Core.Bool.{Bool, true, false, cond, ◌&&◌}
 use mathlib.Core.List.{List, [], ◌∷◌, ◌++◌}
-use mathlib.Core.Option.{none, some}
+use Rattle.std.proofs.Common.{None, Some}
 use native.Mathlib.Omega.{arith}
 use lib.Dec.{leb, ltb, eqb}
 use lib.ListN.{length, length-append}
@@ -102,7 +102,7 @@ number-digit v d n s h e =
     let w : v * 10 + (48 + d - 48) ≡ n = omega arith in
     rw (le-leb 48 (48 + d) (omega arith), le-leb (48 + d) 57 (omega arith), w)
 
-pub number-decimal : (n : ℕ) → number_from 0 (decimal n) ≡ some n
+pub number-decimal : (n : ℕ) → number_from 0 (decimal n) ≡ Some n
 unfolding number_from
 number-decimal n =
     digits (λ n s t. number_from 0 t ≡ number_from n s)
@@ -118,20 +118,20 @@ above : (a z n : ℕ) → z < n → within a z n ≡ false
 above a z n h = rw (lt-leb n z h, and-false)
 
 pub number-some : (s : List ℕ) → 0 < length s → length s ≤ 10 → number_of s ≡ number_from 0 s
-number-some s h l = ap (λ (t : Bool). cond t (number_from 0 s) none) (inside 1 _ (length s) h l)
+number-some s h l = ap (λ (t : Bool). cond t (number_from 0 s) None) (inside 1 _ (length s) h l)
 
-pub number-empty : (s : List ℕ) → length s ≡ 0 → number_of s ≡ none
+pub number-empty : (s : List ℕ) → length s ≡ 0 → number_of s ≡ None
 number-empty s h = rw h
 
-pub number-long : (s : List ℕ) → 10 < length s → number_of s ≡ none
-number-long s h = ap (λ (t : Bool). cond t (number_from 0 s) none) (above 1 _ (length s) h)
+pub number-long : (s : List ℕ) → 10 < length s → number_of s ≡ None
+number-long s h = ap (λ (t : Bool). cond t (number_from 0 s) None) (above 1 _ (length s) h)
 
-says-number : {n : ℕ} {v : List ℕ} → Says n v → (0 < length v) × (number_from 0 v ≡ some n)
+says-number : {n : ℕ} {v : List ℕ} → Says n v → (0 < length v) × (number_from 0 v ≡ Some n)
 unfolding number_from is_digit
 says-number {n} plain = (decimal-some n, number-decimal n)
 says-number (zero_before p) = (omega arith, (says-number p).1)
 
-pub number-of-says : (n : ℕ) (v : List ℕ) → Says n v → length v ≤ 10 → number_of v ≡ some n
+pub number-of-says : (n : ℕ) (v : List ℕ) → Says n v → length v ≤ 10 → number_of v ≡ Some n
 number-of-says n v p l =
     let r = says-number p in
     number-some v r.0 l ∙ r.1
@@ -139,13 +139,13 @@ number-of-says n v p l =
 record Digit (b : ℕ) (s : List ℕ) (v n : ℕ) : Type 0 where
   low : 48 ≤ b
   high : b ≤ 57
-  next : number_from (v * 10 + (b - 48)) s ≡ some n
+  next : number_from (v * 10 + (b - 48)) s ≡ Some n
 
-a-digit : (b v n : ℕ) (s : List ℕ) → number_from v (b ∷ s) ≡ some n → Digit b s v n
+a-digit : (b v n : ℕ) (s : List ℕ) → number_from v (b ∷ s) ≡ Some n → Digit b s v n
 unfolding number_from is_digit
 a-digit b v n s e = by (is_digit b) refl e
   where
-    by : (t : Bool) → is_digit b ≡ t → cond t (number_from (v * 10 + (b - 48)) s) none ≡ some n → Digit b s v n
+    by : (t : Bool) → is_digit b ≡ t → cond t (number_from (v * 10 + (b - 48)) s) None ≡ Some n → Digit b s v n
     by true q f =
         record {
           low = leb-true 48 b (and_left (leb 48 b) (leb b 57) q);
@@ -154,12 +154,12 @@ a-digit b v n s e = by (is_digit b) refl e
         }
     by false q f = absurd (let z : ◌≡◌ {A = ℕ} 0 1 = cc in omega arith)
 
-no_digit : (v n : ℕ) → number_from v [] ≡ some n → v ≡ n
+no_digit : (v n : ℕ) → number_from v [] ≡ Some n → v ≡ n
 unfolding number_from
 no_digit v n e = cc
 
 -- digits after a number that is not 0 are its decimal
-said-after : (s : List ℕ) (v n : ℕ) → 0 < v → number_from v s ≡ some n → digits_in v v s ≡ decimal n
+said-after : (s : List ℕ) (v n : ℕ) → 0 < v → number_from v s ≡ Some n → digits_in v v s ≡ decimal n
 said-after [] v n h e =
     let z : v ≡ n = no_digit v n e in
     rw z
@@ -168,13 +168,13 @@ said-after (b ∷ s) v n h e =
     one_digit_more v b s h d.low d.high ∙ said-after s (v * 10 + (b - 48)) n (omega arith) d.next
 
 -- digits b and s, where it is known what s says after a zero
-lead : (s : List ℕ) (b n : ℕ) → number_from 0 (b ∷ s) ≡ some n → (number_from 0 s ≡ some n → Says n (48 ∷ s)) → Says n (b ∷ s)
+lead : (s : List ℕ) (b n : ℕ) → number_from 0 (b ∷ s) ≡ Some n → (number_from 0 s ≡ Some n → Says n (48 ∷ s)) → Says n (b ∷ s)
 lead s b n e ih = by (eqb b 48) refl
   where
     d : Digit b s 0 n
     d = a-digit b 0 n s e
 
-    next : number_from (b - 48) s ≡ some n
+    next : number_from (b - 48) s ≡ Some n
     next =
         let z : 0 * 10 + (b - 48) ≡ b - 48 = omega arith in
         rw z at d.next
@@ -188,7 +188,7 @@ lead s b n e ih = by (eqb b 48) refl
         let pos : 0 < b - 48 = omega (arith, eqb-false b 48 t) in
         rw (sym (first-digit b s d.low d.high) ∙ said-after s (b - 48) n pos next) plain
 
-says-from : (s : List ℕ) (b n : ℕ) → number_from 0 (b ∷ s) ≡ some n → Says n (b ∷ s)
+says-from : (s : List ℕ) (b n : ℕ) → number_from 0 (b ∷ s) ≡ Some n → Says n (b ∷ s)
 says-from [] b n e =
     lead [] b n e
     (λ f.
@@ -196,16 +196,16 @@ says-from [] b n e =
     rw (← z, ← only_zero) plain)
 says-from (c ∷ s) b n e = lead (c ∷ s) b n e (λ f. zero_before (says-from s c n f))
 
-says_some : (n : ℕ) (v : List ℕ) → 0 < length v → number_from 0 v ≡ some n → Says n v
+says_some : (n : ℕ) (v : List ℕ) → 0 < length v → number_from 0 v ≡ Some n → Says n v
 says_some n [] h e = absurd (omega arith)
 says_some n (b ∷ v) h e = says-from v b n e
 
-pub says-of-number : (n : ℕ) (v : List ℕ) → number_of v ≡ some n → Says n v × (length v ≤ 10)
+pub says-of-number : (n : ℕ) (v : List ℕ) → number_of v ≡ Some n → Says n v × (length v ≤ 10)
 says-of-number n v = by (leb 1 (length v)) (leb (length v) 10) refl refl
   where
     by :
         (t u : Bool) → leb 1 (length v) ≡ t → leb (length v) 10 ≡ u
-        → cond (t && u) (number_from 0 v) none ≡ some n → Says n v × (length v ≤ 10)
+        → cond (t && u) (number_from 0 v) None ≡ Some n → Says n v × (length v ≤ 10)
     by true true p q e = (says_some n v (leb-true 1 (length v) p) e, leb-true (length v) 10 q)
     by true false p q e = absurd (let z : ◌≡◌ {A = ℕ} 0 1 = cc in omega arith)
     by false u p q e = absurd (let z : ◌≡◌ {A = ℕ} 0 1 = cc in omega arith)

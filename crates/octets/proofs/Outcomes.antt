@@ -5,7 +5,7 @@ use Prim.{absurd}
 use native.Mathlib.Omega.{arith}
 use mathlib.Core.Path.{◌≡◌, refl}
 use mathlib.Core.Bool.{Bool, true, false, false≢true}
-use mathlib.Core.Option.{Option, none, some}
+use Rattle.std.proofs.Common.{Option, None, Some}
 use Rattle.octets.specs.Outcome.{Outcome, refused, gives, is_good, then, need, given}
 
 module _ {A : Type 0} where
@@ -13,9 +13,9 @@ module _ {A : Type 0} where
   need-gives true n o a e = (refl, e)
   need-gives false n o a e = (cc, cc)
 
-  pub given-gives : (o : Option A) (n : ℕ) (a : A) → given o n ≡ gives a → o ≡ some a
-  given-gives none n a e = cc
-  given-gives (some b) n a e = cc
+  pub given-gives : (o : Option A) (n : ℕ) (a : A) → given o n ≡ gives a → o ≡ Some a
+  given-gives None n a e = cc
+  given-gives (Some b) n a e = cc
 
 -- an answer is given once
 pub gives-once : {A : Type 0} (a b : A) → gives a ≡ gives b → a ≡ b

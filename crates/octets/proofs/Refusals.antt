@@ -7,7 +7,7 @@ use mathlib.Core.Bool.{Bool, true, false, ◌||◌, false≢true}
 use mathlib.Core.List.{List, [], ◌∷◌}
 use lib.Dec.{eqb}
 use borrow.Author.Tests.{eqb-true}
-use mathlib.Core.Option.{Option, none, some}
+use Rattle.std.proofs.Common.{Option, None, Some}
 use Rattle.octets.specs.Outcome.{Outcome, refused, gives, then, need, given}
 use Rattle.octets.specs.Kinds.{one_of}
 use Rattle.octets.specs.Scan.{all_of}
@@ -62,5 +62,5 @@ module _ {ns : List ℕ} where
   refuses-need false n h k = with_number h
 
   pub refuses-given : {A : Type 0} (o : Option A) (n : ℕ) → one_of ns n ≡ true → Refuses ns (given o n)
-  refuses-given none n h = with_number h
-  refuses-given (some a) n h = not_refused
+  refuses-given None n h = with_number h
+  refuses-given (Some a) n h = not_refused

@@ -1,24 +1,16 @@
 -- Numbers in decimal, read and written.
 -- Assumes nothing.
-use Rattle.std.specs.Prelude.{ℕ, zero, suc, ◌+◌, ◌*◌, ◌-◌, ◌/◌, ◌%◌, cond, List, [], ◌∷◌, ltb, length}
-use Rattle.std.proofs.Math.Option.{Option, none, some}
+use Rattle.std.specs.Prelude.{ℕ, zero, suc, ◌+◌, ◌*◌, ◌-◌, ◌/◌, ◌%◌, cond, List, [], ◌∷◌, ltb, length, Option, None, Some}
 use Rattle.octets.specs.Kinds.{is_digit, within}
-use Rattle.octets.specs.declared.decimal.Number.{Number}
-use Rattle.octets.specs.declared.decimal.Number.TheVariants.{Value, Malformed}
 
 -- the number that the digits s say after the number v; 48 is the digit 0
 unfoldable pub number_from : ℕ → List ℕ → Option ℕ
-number_from v [] = some v
-number_from v (b ∷ s) = cond (is_digit b) (number_from (v * 10 + (b - 48)) s) none
+number_from v [] = Some v
+number_from v (b ∷ s) = cond (is_digit b) (number_from (v * 10 + (b - 48)) s) None
 
 -- the number that 1 to 10 digits say, zeros in front among them. 02 §2: "a decimal number read has at most 10 digits"
 abbrev pub number_of : List ℕ → Option ℕ
-number_of s = cond (within 1 10 (length s)) (number_from 0 s) none
-
--- what the code's answer says
-abbrev pub number_read : Number → Option ℕ
-number_read (Value n) = some n
-number_read Malformed = none
+number_of s = cond (within 1 10 (length s)) (number_from 0 s) None
 
 -- the digits of n in front of s, n not above k
 unfoldable pub digits_in : ℕ → ℕ → List ℕ → List ℕ

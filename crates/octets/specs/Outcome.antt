@@ -1,7 +1,6 @@
 -- What a call gives: one of 01's refusal numbers, or its answer; and the links of a chain of refusals.
 -- Assumes nothing.
-use Rattle.std.specs.Prelude.{ℕ, Bool, true, false, cond}
-use Rattle.std.proofs.Math.Option.{Option, none, some}
+use Rattle.std.specs.Prelude.{ℕ, Bool, true, false, cond, Option, None, Some}
 
 pub data Outcome (A : Type 0) : Type 0 where
   refused : ℕ → Outcome A
@@ -28,5 +27,5 @@ need t n next = cond t next (refused n)
 
 -- what is there, or the number
 abbrev pub given : {A : Type 0} → Option A → ℕ → Outcome A
-given none n = refused n
-given (some a) n = gives a
+given None n = refused n
+given (Some a) n = gives a

@@ -1,40 +1,29 @@
 // Numbers in decimal: read, counted, written.
 ghost use Rattle.std.specs.Prelude.{◌≡◌, ◌+◌, ◌≤◌, length};
-ghost use Rattle.octets.specs.Decimal.{number_of, decimal, number_read};
+ghost use Rattle.octets.specs.Decimal.{number_of, decimal};
 ghost use Rattle.octets.specs.Copy.{Wrote};
 
-// What digits say.
-#[derive(Clone, Copy)]
-pub enum Number {
-    Value(u64),
-    // Not 1 to 10 digits.
-    Malformed,
-}
-
 // The number that s says in 1 to 10 digits, zeros in front among them.
-pub fn read(s: &[u8]) -> Number
-    ensures { number_read result ≡ number_of s.now }
+pub fn read(s: &[u8]) -> Option<u64>
+    ensures { result ≡ number_of s.now }
 {
     if s.len() == 0 {
-        return Number::Malformed;
+        return None;
     }
     if 10 < s.len() {
-        return Number::Malformed;
+        return None;
     }
     let mut v: u64 = 0;
-    let mut i: usize = 0;
-    while i < s.len() {
-        let b = s[i];
+    for &b in s {
         if b < b'0' {
-            return Number::Malformed;
+            return None;
         }
         if b'9' < b {
-            return Number::Malformed;
+            return None;
         }
-        v = v * 10 + (b - b'0') as u64;
-        i += 1;
+        v = v * 10 + u64::from(b - b'0');
     }
-    Number::Value(v)
+    Some(v)
 }
 
 // How many digits n has in decimal.

@@ -1,9 +1,9 @@
 // The table of byte kinds.
-ghost use Rattle.std.specs.Prelude.{◌≡◌};
+ghost use Rattle.std.specs.Prelude.{◌≡◌, slice_index};
 ghost use Rattle.octets.specs.KindTable.{table};
 
 // For each byte the sum of the numbers of its kinds.
-const KINDS: [u8; 256] = [
+static KINDS: [u8; 256] = [
     0, 0, 0, 0, 0, 0, 0, 0, 0, 32, 0, 0, 0, 0, 0, 0, 0, 0, 0, 0, 0, 0, 0, 0, 0, 0, 0, 0, 0, 0, 0,
     0, 32, 60, 32, 44, 60, 60, 60, 60, 48, 48, 60, 188, 48, 188, 188, 48, 191, 191, 191, 191, 191,
     191, 191, 191, 191, 191, 48, 48, 32, 48, 32, 48, 48, 254, 254, 254, 254, 254, 254, 252, 252,
@@ -18,9 +18,9 @@ const KINDS: [u8; 256] = [
     32, 32, 32,
 ];
 
-// The table. A constant is stored anew wherever it is named, so a call takes the table once and lends it to its scans.
-pub fn kinds() -> [u8; 256]
-    ensures { result ≡ table }
+// The sum of the numbers of the kinds of b.
+pub(crate) fn kinds_of(b: u8) -> u8
+    ensures { result ≡ slice_index table b }
 {
-    KINDS
+    KINDS[b as usize]
 }

@@ -1,42 +1,36 @@
 // The kinds of a byte, told by one table of 256 numbers (kind_table.rt).
 ghost use Rattle.std.specs.Prelude.{◌≡◌};
 ghost use Rattle.octets.specs.Kinds.{is_blank, kind_number, rule};
-ghost use Rattle.octets.specs.KindTable.{table};
 
-#[derive(Clone, Copy)]
+use crate::kind_table::kinds_of;
+
+// The kinds, each with its number in the table.
+#[derive(Clone, Copy, Debug, PartialEq, Eq)]
 pub enum Kind {
-    Digit,
-    Hex,
-    Token,
-    Name,
-    Target,
-    Value,
-    Letter,
-    Scheme,
+    Digit = 1,
+    Hex = 2,
+    Token = 4,
+    Name = 8,
+    Target = 16,
+    Value = 32,
+    Letter = 64,
+    Scheme = 128,
 }
 
-// The number that says in the table that a byte has the kind.
-fn number(kind: Kind) -> u8
-    ensures { result ≡ kind_number kind }
-{
-    match kind {
-        Kind::Digit => 1,
-        Kind::Hex => 2,
-        Kind::Token => 4,
-        Kind::Name => 8,
-        Kind::Target => 16,
-        Kind::Value => 32,
-        Kind::Letter => 64,
-        Kind::Scheme => 128,
+impl Kind {
+    // The number that says in the table that a byte has the kind.
+    fn number(self) -> u8
+        ensures { result ≡ kind_number self }
+    {
+        self as u8
     }
 }
 
 // Whether b is of the kind.
-pub fn is_kind(kinds: &[u8; 256], kind: Kind, b: u8) -> bool
-    requires { kinds.now ≡ table }
+pub fn is_kind(kind: Kind, b: u8) -> bool
     ensures { result ≡ rule kind b }
 {
-    kinds[b as usize] / number(kind) % 2 == 1
+    kinds_of(b) / kind.number() % 2 == 1
 }
 
 // Whether b is a space or a tab.

@@ -1,6 +1,8 @@
 // The layer that everything else stands on: kinds of bytes, scans, comparisons, decimal numbers, copying.
 #![tactic(auto)]
 
+pub mod refusal; // why a call refuses
+pub mod span; // a part of a slice, by its place
 pub mod kind_table; // the table of byte kinds
 pub mod kinds; // the kinds, and the question whether a byte is of a kind
 pub mod scan; // where a run of bytes ends, where a byte first stands

@@ -5,7 +5,7 @@ use Prim.{absurd}
 use mathlib.Core.Path.{◌≡◌, refl, sym, ap, ◌∙◌}
 use mathlib.Core.Bool.{Bool, true, false}
 use mathlib.Core.List.{List, [], ◌∷◌, map}
-use mathlib.Core.Option.{some}
+use Rattle.std.proofs.Common.{Some}
 use native.Mathlib.Omega.{arith}
 use lib.Dec.{eqb, leb, ltb}
 use lib.ListN.{length, take, drop}
@@ -86,7 +86,7 @@ module _ {head : List ℕ} {r : Found} where
   states-one (v ∷ (w ∷ vs)) f z h = absurd (omega (arith, f.count_is))
   states-one (v ∷ []) f z h =
       let p : ltb 0 r.count ≡ true = lt-ltb 0 r.count (omega arith) in
-      let e : some v ≡ some (take r.len (drop r.start head)) = f.first_is ∙ ap (λ (t : Bool). part_if t head r.start r.len) p in
+      let e : Some v ≡ Some (take r.len (drop r.start head)) = f.first_is ∙ ap (λ (t : Bool). part_if t head r.start r.len) p in
       let q : v ≡ take r.len (drop r.start head) = cc in
       ap (λ (s : List ℕ). given (number_of s) 17) q
 

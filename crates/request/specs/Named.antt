@@ -1,7 +1,6 @@
 -- The fields of a request by their names.
 -- Assumes nothing.
-use Rattle.std.specs.Prelude.{ℕ, cond, List, [], ◌∷◌, map}
-use Rattle.std.proofs.Math.Option.{Option, none, some}
+use Rattle.std.specs.Prelude.{ℕ, cond, List, [], ◌∷◌, map, Option, None, Some}
 use Rattle.octets.specs.Compare.{same_bytes, lower_of}
 use Rattle.http_head.specs.Fields.{Field}
 
@@ -16,5 +15,5 @@ values_of n (f ∷ fs) = cond (same_bytes f.name n) (f.value ∷ values_of n fs)
 
 -- the first of some values
 abbrev pub first_found : List (List ℕ) → Option (List ℕ)
-first_found [] = none
-first_found (v ∷ vs) = some v
+first_found [] = None
+first_found (v ∷ vs) = Some v

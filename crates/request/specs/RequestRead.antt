@@ -1,7 +1,6 @@
 -- For the code that reads a request's head: what its answers say.
 -- Assumes nothing.
-use Rattle.std.specs.Prelude.{ℕ, ◌+◌, ◌-◌, ◌≤◌, ◌≡◌, Bool, cond, List, ltb, length, take, drop, get_or}
-use Rattle.std.proofs.Math.Option.{Option, none, some}
+use Rattle.std.specs.Prelude.{ℕ, ◌+◌, ◌-◌, ◌≤◌, ◌≡◌, Bool, cond, List, ltb, length, take, drop, get_or, Option, None, Some}
 use Rattle.octets.specs.Text.{bytes}
 use Rattle.octets.specs.Outcome.{Outcome, refused, gives, then}
 use Rattle.octets.specs.Kinds.{is_name}
@@ -152,7 +151,7 @@ request_in head places path l f =
 
 -- the part of a head that is told by a start and a length, where there is one
 abbrev pub part_if : Bool → List ℕ → ℕ → ℕ → Option (List ℕ)
-part_if there head start len = cond there (some (take len (drop start head))) none
+part_if there head start len = cond there (Some (take len (drop start head))) None
 
 -- what code that goes by the places must know of them
 pub record LineKnown (head path : List ℕ) (l : LinePlaces) : Type 0 where

@@ -4,7 +4,7 @@ use Prim.Native.Nat.{ℕ, ◌+◌, ◌-◌, ◌≤◌}
 use mathlib.Core.Path.{◌≡◌, refl, sym, ap, ◌∙◌}
 use mathlib.Core.Bool.{Bool, true, false, cond, not, ◌&&◌, ◌||◌, false≢true}
 use mathlib.Core.List.{List, [], ◌∷◌}
-use mathlib.Core.Option.{Option, none, some}
+use Rattle.std.proofs.Common.{Option, None, Some}
 use native.Mathlib.Omega.{arith}
 use lib.Dec.{eqb}
 use lib.ListN.{length}
@@ -124,7 +124,7 @@ answered s a e =
 
 -- The Location.
 
-first-in : (s : List ℕ) (fs : List Named) → All (ValueIn s) fs → (v : Value) → first_value fs ≡ some v → Stands s v.bytes v.start
+first-in : (s : List ℕ) (fs : List Named) → All (ValueIn s) fs → (v : Value) → first_value fs ≡ Some v → Stands s v.bytes v.start
 first-in s [] no_more v e = absurd (let z : ◌≡◌ {A = ℕ} 0 1 = cc in omega arith)
 first-in s (f ∷ fs) (p & ps) v e = let z : v ≡ f.value = cc in rw z p
 
@@ -138,12 +138,12 @@ module _ (s : List ℕ) (a : Answer) (r : Answered s a) where
   abbrev location : Option Value
   location = first_value (named (bytes "location") r.head.fields)
 
-  stands : (v : Value) → location ≡ some v → Stands s v.bytes v.start
+  stands : (v : Value) → location ≡ Some v → Stands s v.bytes v.start
   stands v e =
       first-in s (named (bytes "location") r.head.fields)
       (named_in (bytes "location") r.head.fields (head_in s r.head r.is).each) v e
 
-  pub value_is : (v : Value) → location ≡ some v → location_in s a ≡ v.bytes
+  pub value_is : (v : Value) → location ≡ Some v → location_in s a ≡ v.bytes
   value_is v e =
       let n : a.location_length ≡ length v.bytes = r.row.location_length ∙ ap length_or0 e in
       let i : a.location_start ≡ v.start = r.row.location_start ∙ ap start_or0 e in
@@ -153,8 +153,8 @@ module _ (s : List ℕ) (a : Answer) (r : Answered s a) where
   places = record { location = by location refl; body = omega (arith, r.row.body_start, r.row.body_length, (head_in s r.head r.is).ends) }
     where
       by : (o : Option Value) → location ≡ o → a.location_start + a.location_length ≤ length s
-      by none e = omega (arith, r.row.location_start ∙ ap start_or0 e, r.row.location_length ∙ ap length_or0 e)
-      by (some v) e = omega (arith, r.row.location_start ∙ ap start_or0 e, r.row.location_length ∙ ap length_or0 e, (stands v e).within)
+      by None e = omega (arith, r.row.location_start ∙ ap start_or0 e, r.row.location_length ∙ ap length_or0 e)
+      by (Some v) e = omega (arith, r.row.location_start ∙ ap start_or0 e, r.row.location_length ∙ ap length_or0 e, (stands v e).within)
 
   pub served : a.action ≡ Serve → accepted (target_of (location_in s a)) ≡ true
   served act = by location refl r.location_is_right fits
@@ -172,20 +172,20 @@ module _ (s : List ℕ) (a : Answer) (r : Answered s a) where
       target v false e f = cc
 
       by : (o : Option Value) → location ≡ o → location_right o ≡ true → local_location (goes_to o) ≡ true → accepted (target_of (location_in s a)) ≡ true
-      by none p e f = cc
-      by (some v) p e f = rw (value_is v p) (target v (is_local v.bytes) e f)
+      by None p e f = cc
+      by (Some v) p e f = rw (value_is v p) (target v (is_local v.bytes) e f)
 
 -- the row of an action says whether there is a Location
 module _ (s : List ℕ) (ends n : ℕ) (typed : Bool) (t : Option ℕ) where
   row-tells : (act : Action) (o : Option Value) → row_of act (script_of s ends n typed o t) ≡ true → is_there o ≡ has_location act
-  row-tells Serve none f = absurd (false≢true f)
-  row-tells Redirect none f = absurd (false≢true f)
-  row-tells RedirectDocument none f = absurd (false≢true f)
-  row-tells Document none f = refl
-  row-tells Serve (some v) f = refl
-  row-tells Redirect (some v) f = refl
-  row-tells RedirectDocument (some v) f = refl
-  row-tells Document (some v) f = absurd (by (is_local v.bytes) f)
+  row-tells Serve None f = absurd (false≢true f)
+  row-tells Redirect None f = absurd (false≢true f)
+  row-tells RedirectDocument None f = absurd (false≢true f)
+  row-tells Document None f = refl
+  row-tells Serve (Some v) f = refl
+  row-tells Redirect (Some v) f = refl
+  row-tells RedirectDocument (Some v) f = refl
+  row-tells Document (Some v) f = absurd (by (is_local v.bytes) f)
     where
       by : (l : Bool) → no_location (cond l local elsewhere) && typed ≡ true → ⊥
       by true e = false≢true e
@@ -199,30 +199,30 @@ tells-location s h a p r =
 
 -- The status.
 
-pub stated-range : (o : Option Value) (n : ℕ) → stated_in o ≡ gives (some n) → within 200 599 n ≡ true
-stated-range none n e = cc
-stated-range (some v) n e = by (status_of v.bytes) refl e
+pub stated-range : (o : Option Value) (n : ℕ) → stated_in o ≡ gives (Some n) → within 200 599 n ≡ true
+stated-range None n e = cc
+stated-range (Some v) n e = by (status_of v.bytes) refl e
   where
-    by : (o : Option ℕ) → status_of v.bytes ≡ o → then (given o 25) (λ m. gives (some m)) ≡ gives (some n) → within 200 599 n ≡ true
-    by none p q = cc
-    by (some m) p q =
+    by : (o : Option ℕ) → status_of v.bytes ≡ o → then (given o 25) (λ m. gives (Some m)) ≡ gives (Some n) → within 200 599 n ≡ true
+    by None p q = cc
+    by (Some m) p q =
         let z : m ≡ n = cc in
         let h = status-within v.bytes m p in
         rw (sym z) (rw (le-leb 200 m h.0, le-leb m 599 h.1))
 
-fits-row : (act : Action) (x : Script) → row_of act x ≡ true → ((n : ℕ) → x.status ≡ some n → within 200 599 n ≡ true) → status_fits act (status_for act x) ≡ true
+fits-row : (act : Action) (x : Script) → row_of act x ≡ true → ((n : ℕ) → x.status ≡ Some n → within 200 599 n ≡ true) → status_fits act (status_for act x) ≡ true
 fits-row Serve x f h = refl
 fits-row Redirect x f h = refl
 fits-row RedirectDocument x f h = by x.status (and_right (other_location x.goes && x.typed) (status_redirecting x.status) f)
   where
     by : (t : Option ℕ) → status_redirecting t ≡ true → redirecting (status_or 0 t) ≡ true
-    by none e = cc
-    by (some n) e = e
+    by None e = cc
+    by (Some n) e = e
 fits-row Document x f h = by x.status h
   where
-    by : (t : Option ℕ) → ((n : ℕ) → t ≡ some n → within 200 599 n ≡ true) → within 200 599 (status_or 200 t) ≡ true
-    by none g = refl
-    by (some n) g = g n refl
+    by : (t : Option ℕ) → ((n : ℕ) → t ≡ Some n → within 200 599 n ≡ true) → within 200 599 (status_or 200 t) ≡ true
+    by None g = refl
+    by (Some n) g = g n refl
 
 pub status-fits : (s : List ℕ) (a : Answer) → Answered s a → status_fits a.action a.status ≡ true
 status-fits s a r =
@@ -257,15 +257,15 @@ pub no-status :
     (s : List ℕ) (h : Head) (a : Answer) → head_of s ≡ gives h → named (bytes "status") h.fields ≡ [] → Answered s a → a.action ≡ Document → a.status ≡ 200
 no-status s h a p e r act =
     let z : h ≡ r.head = same_head s h r.head p r.is in
-    let n : first_value (named (bytes "status") r.head.fields) ≡ none = ap (λ (k : Head). first_value (named (bytes "status") k.fields)) (sym z) ∙ ap first_value e in
-    let t : none ≡ r.status = gives-option (sym (ap stated_in n) ∙ r.stated) in
+    let n : first_value (named (bytes "status") r.head.fields) ≡ None = ap (λ (k : Head). first_value (named (bytes "status") k.fields)) (sym z) ∙ ap first_value e in
+    let t : None ≡ r.status = gives-option (sym (ap stated_in n) ∙ r.stated) in
     r.row.status_is ∙ ap (λ (b : Action). status_for b (script_at s r.head r.status)) act ∙ ap (status_or 200) (sym t)
   where
     gives-option : {o k : Option ℕ} → gives o ≡ gives k → o ≡ k
     gives-option e = cc
 
 pub location-stands :
-    (s : List ℕ) (h : Head) (v : Value) (a : Answer) → head_of s ≡ gives h → first_value (named (bytes "location") h.fields) ≡ some v
+    (s : List ℕ) (h : Head) (v : Value) (a : Answer) → head_of s ≡ gives h → first_value (named (bytes "location") h.fields) ≡ Some v
     → Answered s a → location_in s a ≡ v.bytes
 location-stands s h v a p e r =
     let z : h ≡ r.head = same_head s h r.head p r.is in

@@ -3,7 +3,7 @@
 use Prim.Native.Nat.{ℕ, ◌+◌, ◌≤◌}
 use mathlib.Core.Path.{◌≡◌, refl, sym, ap, ◌∙◌}
 use mathlib.Core.List.{List}
-use mathlib.Core.Option.{Option, none, some}
+use Rattle.std.proofs.Common.{Option, None, Some}
 use native.Mathlib.Omega.{arith}
 use lib.ListN.{length, take, drop, length-take, length-drop}
 use Rattle.octets.specs.Kinds.{is_token}
@@ -16,7 +16,7 @@ use Rattle.response.specs.Seen.{see_of, seen_with}
 use Rattle.response.specs.declared.fields.Seen.{Seen}
 
 -- the value of a line's field stands where it is said to
-module _ (line : List ℕ) (f : Field) (e : field_of is_token line ≡ some f) where
+module _ (line : List ℕ) (f : Field) (e : field_of is_token line ≡ Some f) where
   stands : FieldStands line f
   stands = fields-have-numbers is_token line f e
 
@@ -30,17 +30,17 @@ module _ (line : List ℕ) (f : Field) (e : field_of is_token line ≡ some f) w
   value_inside = omega (arith, stands.value_inside, value-length)
 
 -- the reader says that the line has no field
-pub unseen : (line : List ℕ) (at : ℕ) (seen : Seen) → line_option Malformed ≡ numbers_of is_token line → none ≡ seen_with seen (field_in (record { start = at; bytes = line }))
+pub unseen : (line : List ℕ) (at : ℕ) (seen : Seen) → line_option Malformed ≡ numbers_of is_token line → None ≡ seen_with seen (field_in (record { start = at; bytes = line }))
 unseen line at seen = by (field_of is_token line) refl
   where
-    by : (o : Option Field) → field_of is_token line ≡ o → none ≡ numbers_if o line → none ≡ seen_with seen (field_in (record { start = at; bytes = line }))
-    by none p q = rw p
-    by (some f) p q = cc
+    by : (o : Option Field) → field_of is_token line ≡ o → None ≡ numbers_if o line → None ≡ seen_with seen (field_in (record { start = at; bytes = line }))
+    by None p q = rw p
+    by (Some f) p q = cc
 
 -- .. or that its field has a name of n bytes, and a value of k bytes at v
 pub record Told (line : List ℕ) (n v k : ℕ) : Type 0 where
   pub field : Field
-  pub there : field_of is_token line ≡ some field
+  pub there : field_of is_token line ≡ Some field
   pub name_is : n ≡ name_length line
   pub value_is : v ≡ value_start line
   pub length_is : k ≡ value_length line
@@ -50,12 +50,12 @@ pub record Told (line : List ℕ) (n v k : ℕ) : Type 0 where
 pub told : (line : List ℕ) (n v k : ℕ) → line_option (LineField n v k) ≡ numbers_of is_token line → Told line n v k
 told line n v k = by (field_of is_token line) refl
   where
-    some_is : {a b : FieldNumbers} → some a ≡ some b → a ≡ b
+    some_is : {a b : FieldNumbers} → Some a ≡ Some b → a ≡ b
     some_is e = cc
 
     by : (o : Option Field) → field_of is_token line ≡ o → line_option (LineField n v k) ≡ numbers_if o line → Told line n v k
-    by none p q = absurd (let z : ◌≡◌ {A = ℕ} 0 1 = cc in omega arith)
-    by (some f) p q =
+    by None p q = absurd (let z : ◌≡◌ {A = ℕ} 0 1 = cc in omega arith)
+    by (Some f) p q =
         let s = stands line f p in
         let z = some_is q in
         let a : n ≡ name_length line = ap (λ (x : FieldNumbers). x.name) z in
@@ -73,7 +73,7 @@ told line n v k = by (field_of is_token line) refl
 
 pub seen-line :
     {line : List ℕ} {n v k : ℕ} → Told line n v k → (at : ℕ) (seen r : Seen) → r ≡ see_of seen (take n line) (at + v) k
-    → some r ≡ seen_with seen (field_in (record { start = at; bytes = line }))
+    → Some r ≡ seen_with seen (field_in (record { start = at; bytes = line }))
 seen-line {line} {n} {v} {k} t at seen r e =
     let f = t.field in
     let name : take n line ≡ f.name = ap (λ (m : ℕ). take m line) t.name_is ∙ sym (stands line f t.there).name in

@@ -4,7 +4,7 @@ use Prim.Native.Nat.{ℕ, ◌+◌, ◌≤◌}
 use mathlib.Core.Path.{◌≡◌, refl, sym, ap, ◌∙◌}
 use mathlib.Core.Bool.{Bool, true, false, cond}
 use mathlib.Core.List.{List, [], ◌∷◌, ◌++◌}
-use mathlib.Core.Option.{Option, none, some}
+use Rattle.std.proofs.Common.{Option, None, Some}
 use native.Mathlib.Omega.{arith}
 use lib.Dec.{leb}
 use lib.ListN.{length, take, drop, length-append, length-take, length-drop}
@@ -99,7 +99,7 @@ module _ (t : List ℕ) where
         let z : at + 0 ≡ at = omega arith in
         rw (sym z) (stands-part first-stands (bare f) 0 (bare-stands f))
 
-  lines-in : (fs : List (List ℕ)) (at : ℕ) (f : List ℕ) → drop at t ≡ joined_by 10 f fs → (h : Lines) → lines_from at f fs ≡ some h → LinesIn t h
+  lines-in : (fs : List (List ℕ)) (at : ℕ) (f : List ℕ) → drop at t ≡ joined_by 10 f fs → (h : Lines) → lines_from at f fs ≡ Some h → LinesIn t h
   unfolding lines_from joined_by
   lines-in [] at f e h q = record { each = absurd (let z : ◌≡◌ {A = ℕ} 0 1 = cc in omega arith); ends = let z : ◌≡◌ {A = ℕ} 0 1 = cc in omega arith }
   lines-in (g ∷ fs) at f e h q =
@@ -107,54 +107,54 @@ module _ (t : List ℕ) where
     where
       by :
           (x : Bool) (o : Option Lines) → lines_from (at + length f + 1) g fs ≡ o
-          → cond x (some (record { lines = []; ends = at + length f + 1 })) (on_top (record { start = at; bytes = bare f }) o) ≡ some h
-          → ((k : Lines) → lines_from (at + length f + 1) g fs ≡ some k → LinesIn t k) → LinesIn t h
+          → cond x (Some (record { lines = []; ends = at + length f + 1 })) (on_top (record { start = at; bytes = bare f }) o) ≡ Some h
+          → ((k : Lines) → lines_from (at + length f + 1) g fs ≡ Some k → LinesIn t k) → LinesIn t h
       by true o p q ih =
           let z : h ≡ record { lines = []; ends = at + length f + 1 } = cc in
           rw z (record { each = no_more; ends = room at f (joined_by 10 g fs) e })
-      by false none p q ih = record { each = absurd (let z : ◌≡◌ {A = ℕ} 0 1 = cc in omega arith); ends = let z : ◌≡◌ {A = ℕ} 0 1 = cc in omega arith }
-      by false (some k) p q ih =
+      by false None p q ih = record { each = absurd (let z : ◌≡◌ {A = ℕ} 0 1 = cc in omega arith); ends = let z : ◌≡◌ {A = ℕ} 0 1 = cc in omega arith }
+      by false (Some k) p q ih =
           let z : h ≡ record { lines = record { start = at; bytes = bare f } ∷ k.lines; ends = k.ends } = cc in
           let r = ih k p in
           rw z (record { each = bare-in at f (joined_by 10 g fs) e & r.each; ends = r.ends })
 
 -- Fields.
 
-field_in-lies : (t : List ℕ) (l : Line) → LineIn t l → (x : Named) → field_in l ≡ some x → ValueIn t x
+field_in-lies : (t : List ℕ) (l : Line) → LineIn t l → (x : Named) → field_in l ≡ Some x → ValueIn t x
 field_in-lies t l s x = by (field_of is_token l.bytes) refl
   where
-    by : (o : Option Field) → field_of is_token l.bytes ≡ o → placed l o ≡ some x → ValueIn t x
-    by none p q = absurd (let z : ◌≡◌ {A = ℕ} 0 1 = cc in omega arith)
-    by (some f) p q =
+    by : (o : Option Field) → field_of is_token l.bytes ≡ o → placed l o ≡ Some x → ValueIn t x
+    by None p q = absurd (let z : ◌≡◌ {A = ℕ} 0 1 = cc in omega arith)
+    by (Some f) p q =
         let z : x ≡ record { name = f.name; value = record { start = l.start + value_start l.bytes; bytes = f.value } } = cc in
         rw z
         (stands-part s f.value (value_start l.bytes)
         (record { within = value_inside l.bytes f p; are = value-stands l.bytes f p }))
 
-fields_in-lie : (t : List ℕ) (ls : List Line) → All (LineIn t) ls → (fs : List Named) → fields_of ls ≡ some fs → All (ValueIn t) fs
+fields_in-lie : (t : List ℕ) (ls : List Line) → All (LineIn t) ls → (fs : List Named) → fields_of ls ≡ Some fs → All (ValueIn t) fs
 unfolding fields_of
 fields_in-lie t [] no_more fs e = let z : fs ≡ [] = cc in rw z no_more
 fields_in-lie t (l ∷ ls) (p & ps) fs e = by (field_in l) (fields_of ls) refl refl (fields_in-lie t ls ps) e
   where
     by :
         (f : Option Named) (o : Option (List Named)) → field_in l ≡ f → fields_of ls ≡ o
-        → ((gs : List Named) → fields_of ls ≡ some gs → All (ValueIn t) gs) → ahead f o ≡ some fs → All (ValueIn t) fs
-    by none o a b ih e = absurd (let z : ◌≡◌ {A = ℕ} 0 1 = cc in omega arith)
-    by (some f) none a b ih e = absurd (let z : ◌≡◌ {A = ℕ} 0 1 = cc in omega arith)
-    by (some f) (some gs) a b ih e = let z : fs ≡ f ∷ gs = cc in rw z (field_in-lies t l p f a & ih gs b)
+        → ((gs : List Named) → fields_of ls ≡ Some gs → All (ValueIn t) gs) → ahead f o ≡ Some fs → All (ValueIn t) fs
+    by None o a b ih e = absurd (let z : ◌≡◌ {A = ℕ} 0 1 = cc in omega arith)
+    by (Some f) None a b ih e = absurd (let z : ◌≡◌ {A = ℕ} 0 1 = cc in omega arith)
+    by (Some f) (Some gs) a b ih e = let z : fs ≡ f ∷ gs = cc in rw z (field_in-lies t l p f a & ih gs b)
 
 -- FOR CALLERS: the values of a head's fields stand in the output, and the head ends in it.
 pub record HeadIn (s : List ℕ) (h : Head) : Type 0 where
   pub each : All (ValueIn s) h.fields
   pub ends : h.ends ≤ length s
 
-with_in : (t : List ℕ) (o : Option Lines) → ((k : Lines) → o ≡ some k → LinesIn t k) → (h : Head) → head_with 64 o ≡ some h → HeadIn t h
-with_in t none g h e = record { each = absurd (let z : ◌≡◌ {A = ℕ} 0 1 = cc in omega arith); ends = let z : ◌≡◌ {A = ℕ} 0 1 = cc in omega arith }
-with_in t (some k) g h e = by (leb (length k.lines) 64) (fields_of k.lines) refl e
+with_in : (t : List ℕ) (o : Option Lines) → ((k : Lines) → o ≡ Some k → LinesIn t k) → (h : Head) → head_with 64 o ≡ Some h → HeadIn t h
+with_in t None g h e = record { each = absurd (let z : ◌≡◌ {A = ℕ} 0 1 = cc in omega arith); ends = let z : ◌≡◌ {A = ℕ} 0 1 = cc in omega arith }
+with_in t (Some k) g h e = by (leb (length k.lines) 64) (fields_of k.lines) refl e
   where
-    by : (x : Bool) (o : Option (List Named)) → fields_of k.lines ≡ o → cond x (ends_at k.ends o) none ≡ some h → HeadIn t h
-    by true none p q = record { each = absurd (let z : ◌≡◌ {A = ℕ} 0 1 = cc in omega arith); ends = let z : ◌≡◌ {A = ℕ} 0 1 = cc in omega arith }
-    by true (some fs) p q =
+    by : (x : Bool) (o : Option (List Named)) → fields_of k.lines ≡ o → cond x (ends_at k.ends o) None ≡ Some h → HeadIn t h
+    by true None p q = record { each = absurd (let z : ◌≡◌ {A = ℕ} 0 1 = cc in omega arith); ends = let z : ◌≡◌ {A = ℕ} 0 1 = cc in omega arith }
+    by true (Some fs) p q =
         let z : h ≡ record { fields = fs; ends = k.ends } = cc in
         rw z (record { each = fields_in-lie t k.lines (g k refl).each fs p; ends = (g k refl).ends })
     by false o p q = record { each = absurd (let z : ◌≡◌ {A = ℕ} 0 1 = cc in omega arith); ends = let z : ◌≡◌ {A = ℕ} 0 1 = cc in omega arith }

@@ -4,7 +4,7 @@ use Prim.Native.Nat.{ℕ}
 use mathlib.Core.Path.{refl, sym, ap, ◌∙◌}
 use mathlib.Core.Bool.{Bool, true, false, cond, ◌&&◌}
 use mathlib.Core.List.{List, [], ◌∷◌}
-use mathlib.Core.Option.{Option, none, some}
+use Rattle.std.proofs.Common.{Option, None, Some}
 use lib.ListN.{take}
 use Rattle.octets.specs.Text.{bytes}
 use Rattle.octets.specs.Outcome.{Outcome, refused, then}
@@ -34,8 +34,8 @@ table-25 x = by (serves x) (redirects x) (redirects_with_document x) (has_docume
     by false false false false = with_number refl
 
 stated-25 : (o : Option Value) → Refuses (25 ∷ []) (stated_in o)
-stated-25 none = not_refused
-stated-25 (some v) = refuses-then (refuses-given (status_of v.bytes) 25 refl) (λ n. not_refused)
+stated-25 None = not_refused
+stated-25 (Some v) = refuses-then (refuses-given (status_of v.bytes) 25 refl) (λ n. not_refused)
 
 judged-25 : (s : List ℕ) (h : Head) → Refuses (25 ∷ []) (judged_head s h)
 judged-25 s h =

@@ -4,7 +4,7 @@ use Prim.Native.Nat.{ℕ, ◌≤◌}
 use mathlib.Core.Path.{◌≡◌, refl, sym, ap, ◌∙◌}
 use mathlib.Core.Bool.{true, false, ◌&&◌}
 use mathlib.Core.List.{List}
-use mathlib.Core.Option.{Option, none, some}
+use Rattle.std.proofs.Common.{Option, None, Some}
 use native.Mathlib.Omega.{arith}
 use lib.ListN.{length, take}
 use Rattle.octets.specs.Text.{bytes}
@@ -42,15 +42,15 @@ module _ (s : List ℕ) (ends n : ℕ) (c l t : Option Value) where
 abbrev pub head_seen : List ℕ → Option Kept
 head_seen s = seen_head (head_with 64 (lines_at 0 (take 8192 s)))
 
-pub no-head : (s : List ℕ) → head_seen s ≡ none → response_of s ≡ refused 24
+pub no-head : (s : List ℕ) → head_seen s ≡ None → response_of s ≡ refused 24
 unfolding response_of head_of
 no-head s = by (head_with 64 (lines_at 0 (take 8192 s))) refl
   where
-    by : (o : Option Head) → head_with 64 (lines_at 0 (take 8192 s)) ≡ o → seen_head o ≡ none → response_of s ≡ refused 24
-    by none p e = rw p
-    by (some h) p e = cc
+    by : (o : Option Head) → head_with 64 (lines_at 0 (take 8192 s)) ≡ o → seen_head o ≡ None → response_of s ≡ refused 24
+    by None p e = rw p
+    by (Some h) p e = cc
 
-some_is : {a b : Kept} → some a ≡ some b → a ≡ b
+some_is : {a b : Kept} → Some a ≡ Some b → a ≡ b
 some_is e = cc
 
 -- the head of which the numbers and the marks are kept
@@ -61,15 +61,15 @@ pub record Got (s : List ℕ) (ends n : ℕ) (seen : Seen) : Type 0 where
   pub count : length head.fields ≡ n
   pub seen_is : seen ≡ marks_from none_seen head.fields
 
-pub got : (s : List ℕ) (ends n : ℕ) (seen : Seen) → head_seen s ≡ some (record { ends = ends; fields = n; seen = seen }) → Got s ends n seen
+pub got : (s : List ℕ) (ends n : ℕ) (seen : Seen) → head_seen s ≡ Some (record { ends = ends; fields = n; seen = seen }) → Got s ends n seen
 unfolding head_of
 got s ends n seen = by (head_with 64 (lines_at 0 (take 8192 s))) refl
   where
     by :
-        (o : Option Head) → head_with 64 (lines_at 0 (take 8192 s)) ≡ o → seen_head o ≡ some (record { ends = ends; fields = n; seen = seen })
+        (o : Option Head) → head_with 64 (lines_at 0 (take 8192 s)) ≡ o → seen_head o ≡ Some (record { ends = ends; fields = n; seen = seen })
         → Got s ends n seen
-    by none p e = absurd (let z : ◌≡◌ {A = ℕ} 0 1 = cc in omega arith)
-    by (some h) p e =
+    by None p e = absurd (let z : ◌≡◌ {A = ℕ} 0 1 = cc in omega arith)
+    by (Some h) p e =
         let k = some_is e in
         record {
           head = h;

@@ -3,7 +3,7 @@
 use Prim.Native.Nat.{ℕ}
 use mathlib.Core.Path.{◌≡◌, ap, ◌∙◌}
 use mathlib.Core.Bool.{Bool, true, false, cond, not, ◌&&◌, false≢true}
-use mathlib.Core.Option.{none, some}
+use Rattle.std.proofs.Common.{None, Some}
 use lib.Dec.{eqb}
 use Rattle.octets.specs.Outcome.{refused, gives}
 use Rattle.response.specs.Table.{
@@ -66,7 +66,7 @@ module _ (x : Script) where
       second (answer_for x Serve) (answer_for x Redirect) (answer_for x RedirectDocument) (answer_for x Document) (refused 25)
       x.goes (eqb x.fields 1) (no_body x) (no_status x.status) x.typed (status_redirecting x.status)
 
-  pub redirect_document : (n : ℕ) → redirects_with_document x ≡ true → x.status ≡ some n → table_of x ≡ gives (row_answer x RedirectDocument n)
+  pub redirect_document : (n : ℕ) → redirects_with_document x ≡ true → x.status ≡ Some n → table_of x ≡ gives (row_answer x RedirectDocument n)
   unfolding table_of
   redirect_document n h e =
       third (answer_for x Serve) (answer_for x Redirect) (answer_for x RedirectDocument) (answer_for x Document) (refused 25)
@@ -79,8 +79,8 @@ module _ (x : Script) where
       fourth (answer_for x Serve) (answer_for x Redirect) (answer_for x RedirectDocument) (answer_for x Document) (refused 25)
       x.goes (eqb x.fields 1) (no_body x) (no_status x.status) x.typed (status_redirecting x.status)
 
-  pub document_stated : (n : ℕ) → has_document x ≡ true → x.status ≡ some n → table_of x ≡ gives (row_answer x Document n)
+  pub document_stated : (n : ℕ) → has_document x ≡ true → x.status ≡ Some n → table_of x ≡ gives (row_answer x Document n)
   document_stated n h e = fits h ∙ ap (λ t. answer_with x Document (status_or 200 t)) e
 
-  pub document_200 : has_document x ≡ true → x.status ≡ none → table_of x ≡ gives (row_answer x Document 200)
+  pub document_200 : has_document x ≡ true → x.status ≡ None → table_of x ≡ gives (row_answer x Document 200)
   document_200 h e = fits h ∙ ap (λ t. answer_with x Document (status_or 200 t)) e

@@ -4,7 +4,7 @@ use Prim.Native.Nat.{ℕ, zero, suc, ◌≤◌}
 use mathlib.Core.Path.{◌≡◌, refl, sym, ap, ◌∙◌}
 use mathlib.Core.Bool.{Bool, true, false, cond, not, ◌&&◌}
 use mathlib.Core.List.{List, [], ◌∷◌}
-use mathlib.Core.Option.{some}
+use Rattle.std.proofs.Common.{Some}
 use native.Mathlib.Omega.{arith}
 use lib.ListN.{length, take, drop, length-drop}
 use borrow.Author.Tests.{ne_eqb, lt-leb}
@@ -82,7 +82,7 @@ module _ (s : List ℕ) where
   pub mark-value : (fs : List Named) → All (ValueIn s) fs → at_most_once fs ≡ true → value_at s (mark_of fs) ≡ first_value fs
   unfolding mark_from
   mark-value [] no_more e = refl
-  mark-value (f ∷ []) (p & ps) e = ap (λ (x : List ℕ). some (record { start = f.value.start; bytes = x })) (sym p.are)
+  mark-value (f ∷ []) (p & ps) e = ap (λ (x : List ℕ). Some (record { start = f.value.start; bytes = x })) (sym p.are)
   mark-value (f ∷ (g ∷ fs)) p e =
       let z : ◌≡◌ {A = Bool} true false = sym e ∙ two-or-more f g fs in
       cc

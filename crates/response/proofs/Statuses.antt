@@ -4,7 +4,7 @@ use Prim.Native.Nat.{ℕ, ◌≤◌, ◌<◌}
 use mathlib.Core.Path.{◌≡◌, refl, sym}
 use mathlib.Core.Bool.{Bool, true, false, cond, ◌&&◌, ◌||◌}
 use mathlib.Core.List.{List}
-use mathlib.Core.Option.{Option, none, some}
+use Rattle.std.proofs.Common.{Option, None, Some}
 use native.Mathlib.Omega.{arith}
 use lib.Dec.{eqb, leb}
 use lib.ListN.{length, take, get_or, get_or-eq_default}
@@ -40,47 +40,47 @@ module _ (v : List ℕ) where
       by false false p q e = let z : ◌≡◌ {A = ℕ} 0 1 = cc in omega arith
 
 module _ (v : List ℕ) where
-  pub not_three : three_alone v ≡ false → status_of v ≡ none
+  pub not_three : three_alone v ≡ false → status_of v ≡ None
   unfolding status_of
   not_three e = rw e
 
   module _ (t : three_alone v ≡ true) where
-    pub no-digits : number_of (take 3 v) ≡ none → status_of v ≡ none
+    pub no-digits : number_of (take 3 v) ≡ None → status_of v ≡ None
     unfolding status_of
     no-digits e = rw (t, e)
 
-    module _ (n : ℕ) (e : number_of (take 3 v) ≡ some n) where
-      pub low : n < 200 → status_of v ≡ none
+    module _ (n : ℕ) (e : number_of (take 3 v) ≡ Some n) where
+      pub low : n < 200 → status_of v ≡ None
       unfolding status_of
       low h = rw (t, e, lt-leb 200 n h)
 
-      pub high : 599 < n → status_of v ≡ none
+      pub high : 599 < n → status_of v ≡ None
       unfolding status_of
       high h = rw (t, e, lt-leb n 599 h, and-false (leb 200 n))
 
-      pub right : 200 ≤ n → n ≤ 599 → status_of v ≡ some n
+      pub right : 200 ≤ n → n ≤ 599 → status_of v ≡ Some n
       unfolding status_of
       right h k = rw (t, e, le-leb 200 n h, le-leb n 599 k)
 
 -- FOR CALLERS: a status is 200 to 599
-pub status-within : (v : List ℕ) (n : ℕ) → status_of v ≡ some n → (200 ≤ n) × (n ≤ 599)
+pub status-within : (v : List ℕ) (n : ℕ) → status_of v ≡ Some n → (200 ≤ n) × (n ≤ 599)
 unfolding status_of
 status-within v n = by (three_alone v) (number_of (take 3 v))
   where
-    in-range : (m : ℕ) (x y : Bool) → leb 200 m ≡ x → leb m 599 ≡ y → cond (x && y) (some m) none ≡ some n → (200 ≤ n) × (n ≤ 599)
+    in-range : (m : ℕ) (x y : Bool) → leb 200 m ≡ x → leb m 599 ≡ y → cond (x && y) (Some m) None ≡ Some n → (200 ≤ n) × (n ≤ 599)
     in-range m true true p q e =
         let z : m ≡ n = cc in
         omega (arith, leb-true 200 m p, leb-true m 599 q)
     in-range m true false p q e = let z : ◌≡◌ {A = ℕ} 0 1 = cc in omega arith
     in-range m false y p q e = let z : ◌≡◌ {A = ℕ} 0 1 = cc in omega arith
 
-    by : (x : Bool) (o : Option ℕ) → cond x (in_range o) none ≡ some n → (200 ≤ n) × (n ≤ 599)
-    by true none e = let z : ◌≡◌ {A = ℕ} 0 1 = cc in omega arith
-    by true (some m) e = in-range m (leb 200 m) (leb m 599) refl refl e
+    by : (x : Bool) (o : Option ℕ) → cond x (in_range o) None ≡ Some n → (200 ≤ n) × (n ≤ 599)
+    by true None e = let z : ◌≡◌ {A = ℕ} 0 1 = cc in omega arith
+    by true (Some m) e = in-range m (leb 200 m) (leb m 599) refl refl e
     by false o e = let z : ◌≡◌ {A = ℕ} 0 1 = cc in omega arith
 
 -- what the code's answer says of a Status that is there
-pub stated-there : (r : Stated) (v : List ℕ) → stated_option r ≡ status_of v → stated_outcome r ≡ then (given (status_of v) 25) (λ n. gives (some n))
+pub stated-there : (r : Stated) (v : List ℕ) → stated_option r ≡ status_of v → stated_outcome r ≡ then (given (status_of v) 25) (λ n. gives (Some n))
 stated-there (Code n) v e =
     let h = status-within v n (sym e) in
     rw (sym e) (rw (ne_eqb n 0 (λ z. omega (arith, h.0))))

@@ -4,7 +4,7 @@ use Prim.Native.Nat.{ℕ, zero, suc, ◌+◌, ◌-◌, ◌≤◌, ◌<◌}
 use mathlib.Core.Path.{◌≡◌, refl, sym, ap, ◌∙◌}
 use mathlib.Core.Bool.{Bool, true, false, cond}
 use mathlib.Core.List.{List, [], ◌∷◌}
-use mathlib.Core.Option.{Option, none, some}
+use Rattle.std.proofs.Common.{Option, None, Some}
 use native.Mathlib.Nat.{add-zero}
 use native.Mathlib.Omega.{arith}
 use lib.Dec.{eqb}
@@ -39,7 +39,7 @@ module _ (code a l n b r : ℕ) where
   unfolding table_of
   other-status e = by (eqb code 0)
     where
-      by : (z : Bool) → table_of (script elsewhere a l (cond z none (some code)) true n b r) ≡ refused 25
+      by : (z : Bool) → table_of (script elsewhere a l (cond z None (Some code)) true n b r) ≡ refused 25
       by true = refl
       by false = rw e
 
@@ -47,7 +47,7 @@ module _ (code a l n b r : ℕ) where
   unfolding table_of
   redirect-status e = by (eqb code 0) refl
     where
-      by : (z : Bool) → eqb code 0 ≡ z → table_of (script elsewhere a l (cond z none (some code)) true n b r) ≡ answer_with x RedirectDocument code
+      by : (z : Bool) → eqb code 0 ≡ z → table_of (script elsewhere a l (cond z None (Some code)) true n b r) ≡ answer_with x RedirectDocument code
       by true q =
           let w : ◌≡◌ {A = Bool} true false = sym e ∙ ap redirecting (eqb-true code 0 q) ∙ none-redirects in
           cc

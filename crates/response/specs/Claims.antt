@@ -1,7 +1,6 @@
 -- What is claimed of responses.
 -- Assumes nothing.
-use Rattle.std.specs.Prelude.{ℕ, suc, ◌+◌, ◌≤◌, ◌≡◌, Bool, true, cond, ◌||◌, List, [], ◌∷◌, eqb, length, take, drop}
-use Rattle.std.proofs.Math.Option.{none, some}
+use Rattle.std.specs.Prelude.{ℕ, suc, ◌+◌, ◌≤◌, ◌≡◌, Bool, true, cond, ◌||◌, List, [], ◌∷◌, eqb, length, take, drop, None, Some}
 use Rattle.octets.specs.Text.{bytes}
 use Rattle.octets.specs.Outcome.{Outcome, refused, gives, then}
 use Rattle.octets.specs.Kinds.{one_of, within}
@@ -49,10 +48,10 @@ pub record TableHolds : Type 0 where
   pub redirect : (x : Script) → redirects x ≡ true → table_of x ≡ gives (row_answer x Redirect 302)
   -- "redirect with document", with the Status that the row asks for
   pub redirect_document :
-      (x : Script) (n : ℕ) → redirects_with_document x ≡ true → x.status ≡ some n → table_of x ≡ gives (row_answer x RedirectDocument n)
+      (x : Script) (n : ℕ) → redirects_with_document x ≡ true → x.status ≡ Some n → table_of x ≡ gives (row_answer x RedirectDocument n)
   -- "document, Status or 200"
-  pub document_stated : (x : Script) (n : ℕ) → has_document x ≡ true → x.status ≡ some n → table_of x ≡ gives (row_answer x Document n)
-  pub document_200 : (x : Script) → has_document x ≡ true → x.status ≡ none → table_of x ≡ gives (row_answer x Document 200)
+  pub document_stated : (x : Script) (n : ℕ) → has_document x ≡ true → x.status ≡ Some n → table_of x ≡ gives (row_answer x Document n)
+  pub document_200 : (x : Script) → has_document x ≡ true → x.status ≡ None → table_of x ≡ gives (row_answer x Document 200)
   -- "anything else | 25"
   pub else_25 : (x : Script) → rows_that_fit x ≡ 0 → table_of x ≡ refused 25
   pub row_fits : (x : Script) (a : Answer) → table_of x ≡ gives a → row_of a.action x ≡ true
@@ -100,7 +99,7 @@ ActionTellsLocation =
 -- "start and length of the Location value": its bytes stand there
 abbrev pub LocationStands : Type 0
 LocationStands =
-    (s : List ℕ) (h : Head) (v : Value) (a : Answer) → head_of s ≡ gives h → first_value (named (bytes "location") h.fields) ≡ some v
+    (s : List ℕ) (h : Head) (v : Value) (a : Answer) → head_of s ≡ gives h → first_value (named (bytes "location") h.fields) ≡ Some v
     → response_of s ≡ gives a → location_in s a ≡ v.bytes
 
 -- .. "and of the body": the places lie within the output, and the body is the rest of it

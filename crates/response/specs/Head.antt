@@ -1,7 +1,6 @@
 -- The head of a script's output: its lines, their fields, and where it ends.
 -- Assumes nothing.
-use Rattle.std.specs.Prelude.{ℕ, ◌+◌, ◌-◌, cond, List, [], ◌∷◌, eqb, leb, length, take, get_or}
-use Rattle.std.proofs.Math.Option.{Option, none, some}
+use Rattle.std.specs.Prelude.{ℕ, ◌+◌, ◌-◌, cond, List, [], ◌∷◌, eqb, leb, length, take, get_or, Option, None, Some}
 use Rattle.octets.specs.Outcome.{Outcome, given}
 use Rattle.octets.specs.Kinds.{is_token}
 use Rattle.octets.specs.Lists.{is_nil}
@@ -27,16 +26,16 @@ pub record Lines : Type 0 where
 
 -- one line more before others
 abbrev pub on_top : Line → Option Lines → Option Lines
-on_top l none = none
-on_top l (some h) = some (record { lines = l ∷ h.lines; ends = h.ends })
+on_top l None = None
+on_top l (Some h) = Some (record { lines = l ∷ h.lines; ends = h.ends })
 
 -- "the head ends with the first empty line": f is what stands from the place at on before the next LF, and fs is what stands behind that LF
 -- up to the next, and so on. What no LF ends is no line.
 unfoldable pub lines_from : ℕ → List ℕ → List (List ℕ) → Option Lines
-lines_from at f [] = none
+lines_from at f [] = None
 lines_from at f (g ∷ fs) =
     let next = at + length f + 1 in
-    cond (is_nil (bare f)) (some (record { lines = []; ends = next })) (on_top (record { start = at; bytes = bare f }) (lines_from next g fs))
+    cond (is_nil (bare f)) (Some (record { lines = []; ends = next })) (on_top (record { start = at; bytes = bare f }) (lines_from next g fs))
 
 -- .. of the bytes t, which start at the place at; LF is 10
 abbrev pub lines_at : ℕ → List ℕ → Option Lines
@@ -54,9 +53,9 @@ pub record Named : Type 0 where
 
 -- the field of a line, with the place of its value in the output
 abbrev pub placed : Line → Option Field → Option Named
-placed l none = none
-placed l (some f) =
-    some (record { name = f.name; value = record { start = l.start + value_start l.bytes; bytes = f.value } })
+placed l None = None
+placed l (Some f) =
+    Some (record { name = f.name; value = record { start = l.start + value_start l.bytes; bytes = f.value } })
 
 -- "field lines as above, but `_` is allowed": a name's bytes are token bytes
 abbrev pub field_in : Line → Option Named
@@ -64,13 +63,13 @@ field_in l = placed l (field_of is_token l.bytes)
 
 -- a field before others, where all are there
 abbrev pub ahead : Option Named → Option (List Named) → Option (List Named)
-ahead none fs = none
-ahead (some f) none = none
-ahead (some f) (some fs) = some (f ∷ fs)
+ahead None fs = None
+ahead (Some f) None = None
+ahead (Some f) (Some fs) = Some (f ∷ fs)
 
 -- the fields of lines, where each line has one
 unfoldable pub fields_of : List Line → Option (List Named)
-fields_of [] = some []
+fields_of [] = Some []
 fields_of (l ∷ ls) = ahead (field_in l) (fields_of ls)
 
 -- the fields of the head, and where the body starts: the place after the empty line's LF
@@ -79,13 +78,13 @@ pub record Head : Type 0 where
   pub ends : ℕ
 
 abbrev pub ends_at : ℕ → Option (List Named) → Option Head
-ends_at n none = none
-ends_at n (some fs) = some (record { fields = fs; ends = n })
+ends_at n None = None
+ends_at n (Some fs) = Some (record { fields = fs; ends = n })
 
 -- .. where at most k lines stand before the empty line, and each is a field line
 abbrev pub head_with : ℕ → Option Lines → Option Head
-head_with k none = none
-head_with k (some h) = cond (leb (length h.lines) k) (ends_at h.ends (fields_of h.lines)) none
+head_with k None = None
+head_with k (Some h) = cond (leb (length h.lines) k) (ends_at h.ends (fields_of h.lines)) None
 
 -- "the head ends with the first empty line, within 8,192 bytes, and has at most 64 lines before it; field lines as above, but `_` is
 -- allowed. Else 24." The empty line's LF is among the first 8,192 bytes. A CR that does not belong to a line's end is no byte of a name or

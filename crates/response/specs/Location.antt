@@ -1,7 +1,6 @@
 -- The value of Location.
 -- Assumes nothing.
-use Rattle.std.specs.Prelude.{ℕ, ◌+◌, Bool, true, false, cond, not, ◌&&◌, List, eqb, ltb, length, take, get_or}
-use Rattle.std.proofs.Math.Option.{Option, none, some}
+use Rattle.std.specs.Prelude.{ℕ, ◌+◌, Bool, true, false, cond, not, ◌&&◌, List, eqb, ltb, length, take, get_or, Option, None, Some}
 use Rattle.octets.specs.Outcome.{Outcome, refused, gives}
 use Rattle.octets.specs.Kinds.{within, is_letter, is_scheme}
 use Rattle.octets.specs.Scan.{run, other, all_of}
@@ -35,10 +34,10 @@ is_location v = cond (is_local v) (accepted (target_of v)) (is_elsewhere v)
 
 -- .. where there is a Location
 abbrev pub location_right : Option Value → Bool
-location_right none = true
-location_right (some v) = is_location v.bytes
+location_right None = true
+location_right (Some v) = is_location v.bytes
 
 -- "Content-Type and Location not empty", where they are there
 abbrev pub filled : Option Value → Bool
-filled none = true
-filled (some v) = not (is_nil v.bytes)
+filled None = true
+filled (Some v) = not (is_nil v.bytes)

@@ -1,7 +1,6 @@
 -- A script's response: what its whole output asks of the server.
 -- Assumes nothing.
-use Rattle.std.specs.Prelude.{ℕ, Bool, true, false, cond, ◌&&◌, List, [], ◌∷◌, leb, length}
-use Rattle.std.proofs.Math.Option.{Option, none, some}
+use Rattle.std.specs.Prelude.{ℕ, Bool, true, false, cond, ◌&&◌, List, [], ◌∷◌, leb, length, Option, None, Some}
 use Rattle.octets.specs.Text.{bytes}
 use Rattle.octets.specs.Outcome.{Outcome, then, need}
 use Rattle.octets.specs.Compare.{same_letters}
@@ -25,12 +24,12 @@ each_once fs = at_most_once (named (bytes "content-type") fs) && at_most_once (n
 
 -- the value of the first field, where there is one
 abbrev pub first_value : List Named → Option Value
-first_value [] = none
-first_value (f ∷ fs) = some f.value
+first_value [] = None
+first_value (f ∷ fs) = Some f.value
 
 abbrev pub is_there : Option Value → Bool
-is_there none = false
-is_there (some v) = true
+is_there None = false
+is_there (Some v) = true
 
 -- "Then, or 25": what is asked of the values of Content-Type, Location and Status, and the table. s is the output, whose head has n fields
 -- and ends at a place

@@ -1,7 +1,6 @@
 -- For the step that reads the head: what it keeps of the fields, one after the other.
 -- Assumes nothing.
-use Rattle.std.specs.Prelude.{ℕ, ◌+◌, ◌≤◌, Bool, true, false, cond, not, List, [], ◌∷◌, eqb, length, take, drop}
-use Rattle.std.proofs.Math.Option.{Option, none, some}
+use Rattle.std.specs.Prelude.{ℕ, ◌+◌, ◌≤◌, Bool, true, false, cond, not, List, [], ◌∷◌, eqb, length, take, drop, Option, None, Some}
 use Rattle.octets.specs.Text.{bytes}
 use Rattle.octets.specs.Compare.{same_letters}
 use Rattle.response.specs.Head.{Value, Named, Head}
@@ -35,8 +34,8 @@ abbrev pub see_field : Seen → Named → Seen
 see_field seen f = see_of seen f.name f.value.start (length f.value.bytes)
 
 abbrev pub seen_with : Seen → Option Named → Option Seen
-seen_with seen none = none
-seen_with seen (some f) = some (see_field seen f)
+seen_with seen None = None
+seen_with seen (Some f) = Some (see_field seen f)
 
 -- fields after what was seen
 unfoldable pub seen_from : Seen → List Named → Seen
@@ -54,26 +53,26 @@ pub record Kept : Type 0 where
 
 -- .. where n fields were seen before
 abbrev pub seen_on : ℕ → Seen → Option Head → Option Kept
-seen_on n seen none = none
-seen_on n seen (some h) = some (record { ends = h.ends; fields = n + length h.fields; seen = seen_from seen h.fields })
+seen_on n seen None = None
+seen_on n seen (Some h) = Some (record { ends = h.ends; fields = n + length h.fields; seen = seen_from seen h.fields })
 
 abbrev pub seen_head : Option Head → Option Kept
 seen_head o = seen_on 0 none_seen o
 
 -- what the code's answers say
 abbrev pub step_option : LineStep → Option Seen
-step_option (Next seen) = some seen
-step_option StepMalformed = none
+step_option (Next seen) = Some seen
+step_option StepMalformed = None
 
 abbrev pub head_option : HeadPlace → Option Kept
-head_option (Ends e n seen) = some (record { ends = e; fields = n; seen = seen })
-head_option Malformed = none
+head_option (Ends e n seen) = Some (record { ends = e; fields = n; seen = seen })
+head_option Malformed = None
 
 -- the value that a mark tells, in the output s
 abbrev pub value_at : List ℕ → Mark → Option Value
-value_at s Absent = none
-value_at s (Once a l) = some (record { start = a; bytes = take l (drop a s) })
-value_at s Twice = none
+value_at s Absent = None
+value_at s (Once a l) = Some (record { start = a; bytes = take l (drop a s) })
+value_at s Twice = None
 
 -- .. and that it lies within s
 abbrev pub MarkIn : List ℕ → Mark → Type 0

@@ -1,7 +1,6 @@
 -- The table of actions.
 -- Assumes nothing.
-use Rattle.std.specs.Prelude.{ℕ, ◌-◌, Bool, true, false, cond, not, ◌&&◌, List, [], ◌∷◌, eqb, length}
-use Rattle.std.proofs.Math.Option.{Option, none, some}
+use Rattle.std.specs.Prelude.{ℕ, ◌-◌, Bool, true, false, cond, not, ◌&&◌, List, [], ◌∷◌, eqb, length, Option, None, Some}
 use Rattle.octets.specs.Outcome.{Outcome, refused, gives}
 use Rattle.octets.specs.Kinds.{one_of}
 use Rattle.response.specs.Head.{Value}
@@ -73,16 +72,16 @@ other_location local = false
 other_location elsewhere = true
 
 abbrev pub no_status : Option ℕ → Bool
-no_status none = true
-no_status (some n) = false
+no_status None = true
+no_status (Some n) = false
 
 -- "301, 302, 303, 307 or 308"
 unfoldable pub redirecting : ℕ → Bool
 redirecting n = one_of (301 ∷ 302 ∷ 303 ∷ 307 ∷ 308 ∷ []) n
 
 abbrev pub status_redirecting : Option ℕ → Bool
-status_redirecting none = false
-status_redirecting (some n) = redirecting n
+status_redirecting None = false
+status_redirecting (Some n) = redirecting n
 
 abbrev pub no_body : Script → Bool
 no_body x = eqb x.body_length 0
@@ -114,8 +113,8 @@ has_location Document = false
 
 -- "Status or" another
 abbrev pub status_or : ℕ → Option ℕ → ℕ
-status_or n none = n
-status_or n (some m) = m
+status_or n None = n
+status_or n (Some m) = m
 
 abbrev pub answer_with : Script → Action → ℕ → Outcome Answer
 answer_with x a t =
@@ -147,16 +146,16 @@ table_of x =
     (cond (redirects_with_document x) (answer_for x RedirectDocument) (cond (has_document x) (answer_for x Document) (refused 25))))
 
 abbrev pub goes_to : Option Value → Goes
-goes_to none = nowhere
-goes_to (some v) = cond (is_local v.bytes) local elsewhere
+goes_to None = nowhere
+goes_to (Some v) = cond (is_local v.bytes) local elsewhere
 
 abbrev pub start_or0 : Option Value → ℕ
-start_or0 none = 0
-start_or0 (some v) = v.start
+start_or0 None = 0
+start_or0 (Some v) = v.start
 
 abbrev pub length_or0 : Option Value → ℕ
-length_or0 none = 0
-length_or0 (some v) = length v.bytes
+length_or0 None = 0
+length_or0 (Some v) = length v.bytes
 
 -- of an output s whose head has n fields and ends at a place, with its Location and its status
 abbrev pub script_of : List ℕ → ℕ → ℕ → Bool → Option Value → Option ℕ → Script

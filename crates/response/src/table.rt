@@ -1,6 +1,5 @@
 // The table of actions.
-ghost use Rattle.std.specs.Prelude.{ℕ, ◌≤◌, ◌≡◌, Bool, true, length};
-ghost use Rattle.std.proofs.Math.Option.{Option};
+ghost use Rattle.std.specs.Prelude.{ℕ, ◌≤◌, ◌≡◌, Bool, Option, true, length};
 ghost use Rattle.octets.specs.Outcome.{refusal_of};
 ghost use Rattle.response.specs.Seen.{value_at, MarkIn};
 ghost use Rattle.response.specs.Status.{status_read};

@@ -5,7 +5,7 @@ use Prim.Native.Nat.{ℕ, ◌+◌, ◌-◌, ◌≤◌, ◌<◌}
 use mathlib.Core.Path.{◌≡◌, refl, sym, ap, ◌∙◌}
 use mathlib.Core.Bool.{Bool, true, false, cond, ◌&&◌, ◌||◌}
 use mathlib.Core.List.{List, [], ◌∷◌}
-use mathlib.Core.Option.{Option, none, some}
+use Rattle.std.proofs.Common.{Option, None, Some}
 use native.Mathlib.Nat.{sub-zero}
 use native.Mathlib.Omega.{arith}
 use lib.Dec.{leb}
@@ -63,8 +63,8 @@ module _ (b : List ℕ) (w : well_formed b ≡ true) where
 -- The header SCGI.
 
 abbrev pub is_value : Option (List ℕ) → List ℕ → Bool
-is_value none v = false
-is_value (some w) v = same_bytes w v
+is_value None v = false
+is_value (Some w) v = same_bytes w v
 
 has-none : (x : Header) (hs : List Header) → All (λ m. x.name ≡ m → ⊥) (names hs) → has x hs ≡ false
 unfolding has
@@ -79,7 +79,7 @@ has_value x (h ∷ hs) (one_more p d) = by (same_bytes h.name x.name) refl (has_
   where
     by :
         (t : Bool) → same_bytes h.name x.name ≡ t → has x hs ≡ is_value (value_in x.name hs) x.value
-        → (t && same_bytes h.value x.value) || has x hs ≡ is_value (cond t (some h.value) (value_in x.name hs)) x.value
+        → (t && same_bytes h.value x.value) || has x hs ≡ is_value (cond t (Some h.value) (value_in x.name hs)) x.value
     by true q ih =
         let z : h.name ≡ x.name = same_true h.name x.name q in
         rw (has-none x hs (rw z at p)) (or-false (same_bytes h.value x.value))

@@ -3,7 +3,7 @@
 use Prim.Native.Nat.{ℕ}
 use mathlib.Core.Path.{◌≡◌, ap, ◌∙◌}
 use mathlib.Core.List.{List, ◌++◌, append_assoc, map}
-use mathlib.Core.Option.{Option}
+use Rattle.std.proofs.Common.{Option}
 use Rattle.headers.specs.Block.{printed}
 use Rattle.lent.specs.Settings.{Settings}
 use Rattle.mounts.specs.Mounts.{Route}

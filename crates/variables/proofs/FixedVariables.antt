@@ -5,7 +5,7 @@ use Prim.{absurd}
 use mathlib.Core.Path.{◌≡◌, refl, sym, ap, ◌∙◌}
 use mathlib.Core.Bool.{Bool, true, false}
 use mathlib.Core.List.{List, [], ◌∷◌, ◌++◌, append_assoc}
-use mathlib.Core.Option.{none, some}
+use Rattle.std.proofs.Common.{None, Some}
 use native.Mathlib.Omega.{arith}
 use lib.ListN.{length, take, drop, length-take, length-drop, drop_of_length-le}
 use lib.Seq.{length-take-le, take-add, drop_at, drop-drop}
@@ -62,8 +62,8 @@ rows_append a b = ap printed (present-append a b) ∙ printed-append (present a)
   where
     present-append : (a b : Rows) → present (a ++ b) ≡ present a ++ present b
     present-append [] b = refl
-    present-append (none ∷ a) b = present-append a b
-    present-append (some h ∷ a) b = ap (λ (hs : List Header). h ∷ hs) (present-append a b)
+    present-append (None ∷ a) b = present-append a b
+    present-append (Some h ∷ a) b = ap (λ (hs : List Header). h ∷ hs) (present-append a b)
 
 -- CONTENT_LENGTH and SCGI, in three pieces
 abbrev pub behind_digits : Rows → List ℕ

@@ -4,7 +4,7 @@ use Prim.Native.Nat.{ℕ, ◌+◌, ◌≤◌}
 use mathlib.Core.Path.{◌≡◌, refl, ap, ◌∙◌}
 use mathlib.Core.Bool.{Bool, true, false, not, ◌&&◌}
 use mathlib.Core.List.{List, [], ◌∷◌, ◌++◌, map}
-use mathlib.Core.Option.{Option, none, some}
+use Rattle.std.proofs.Common.{Option, None, Some}
 use native.Mathlib.Omega.{arith}
 use lib.Dec.{eqb}
 use lib.ListN.{length, length-append, length-map}
@@ -81,10 +81,10 @@ record Fixed (hs : List Header) : Type 0 where
 
 fixed-at : (s : Settings) (r : Route) (m : Meaning) (n : ℕ) (a : Option Auth) (c : Option (List ℕ)) → Fixed (fixed (authed s a) r (typed m c) n)
 unfolding fixed different is_in same_bytes
-fixed-at s r m n none none = record { differ = refl; no_http = refl; count = omega arith }
-fixed-at s r m n none (some c) = record { differ = refl; no_http = refl; count = omega arith }
-fixed-at s r m n (some a) none = record { differ = refl; no_http = refl; count = omega arith }
-fixed-at s r m n (some a) (some c) = record { differ = refl; no_http = refl; count = omega arith }
+fixed-at s r m n None None = record { differ = refl; no_http = refl; count = omega arith }
+fixed-at s r m n None (Some c) = record { differ = refl; no_http = refl; count = omega arith }
+fixed-at s r m n (Some a) None = record { differ = refl; no_http = refl; count = omega arith }
+fixed-at s r m n (Some a) (Some c) = record { differ = refl; no_http = refl; count = omega arith }
 
 names-append : (hs ks : List Header) → names (hs ++ ks) ≡ names hs ++ names ks
 names-append [] ks = refl

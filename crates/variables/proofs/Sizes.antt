@@ -4,7 +4,7 @@ use Prim.Native.Nat.{ℕ, ◌+◌, ◌*◌, ◌≤◌}
 use mathlib.Core.Path.{◌≡◌, refl, sym, ap, ◌∙◌}
 use mathlib.Core.Bool.{Bool, true, false, cond, not, ◌&&◌, ◌||◌}
 use mathlib.Core.List.{List, [], ◌∷◌, ◌++◌, map}
-use mathlib.Core.Option.{Option, none, some}
+use Rattle.std.proofs.Common.{Option, None, Some}
 use native.Mathlib.Omega.{arith}
 use lib.ListN.{length, length-append, length-map}
 use borrow.Author.Tests.{not-true}
@@ -142,8 +142,8 @@ grouped-size (f ∷ fs) ns d = by (is_in f.name ns) refl (grouped-size fs ns d) 
 
 -- Content-Type is not passed, and has a variable of its own
 abbrev type_size : Option (List ℕ) → ℕ
-type_size none = 0
-type_size (some v) = 14 + length v
+type_size None = 0
+type_size (Some v) = 14 + length v
 
 passed-size : (fs : List Field) → costs (passed fs) + type_size (first_found (values_of (bytes "content-type") fs)) ≤ costs fs
 unfolding passed costs values_of is_in same_bytes
@@ -183,10 +183,10 @@ module _ (s : Settings) (r : Route) (m : Meaning) where
 
   parts_at : (a : Option Auth) (c : Option (List ℕ)) → sizes (variables (authed s a) r (typed m c)) ≡ parts_size a c
   unfolding fixed sizes parts_size
-  parts_at none none = omega arith
-  parts_at none (some c) = omega arith
-  parts_at (some a) none = omega arith
-  parts_at (some a) (some c) = omega arith
+  parts_at None None = omega arith
+  parts_at None (Some c) = omega arith
+  parts_at (Some a) None = omega arith
+  parts_at (Some a) (Some c) = omega arith
 
   parts-size : length (printed (variables s r m)) ≡ parts_size s.auth m.content_type
   parts-size = printed-sizes (variables s r m) ∙ parts_at s.auth m.content_type

@@ -5,7 +5,7 @@ use Prim.Native.String.{String}
 use mathlib.Core.Path.{◌≡◌, refl, sym, ap, ◌∙◌}
 use mathlib.Core.Bool.{true, false}
 use mathlib.Core.List.{List, [], ◌∷◌, map}
-use mathlib.Core.Option.{Option, none, some}
+use Rattle.std.proofs.Common.{Option, None, Some}
 use lib.ListN.{length}
 use Rattle.octets.specs.Text.{bytes}
 use Rattle.octets.specs.Kinds.{is_digit}
@@ -47,25 +47,25 @@ typed m c =
       body = m.body;
     }
 
-no_http : (fs : List Field) → value_in (bytes "CONTENT_TYPE") (map http_variable fs) ≡ none
+no_http : (fs : List Field) → value_in (bytes "CONTENT_TYPE") (map http_variable fs) ≡ None
 unfolding value_in same_bytes
 no_http [] = refl
 no_http (f ∷ fs) = no_http fs
 
 -- looked up, the variables say the parts of the meaning
 record Said (hs : List Header) (m : Meaning) : Type 0 where
-  method : value_in (bytes "REQUEST_METHOD") hs ≡ some m.method
-  target : value_in (bytes "REQUEST_URI") hs ≡ some m.target
-  version : value_in (bytes "SERVER_PROTOCOL") hs ≡ some m.version
+  method : value_in (bytes "REQUEST_METHOD") hs ≡ Some m.method
+  target : value_in (bytes "REQUEST_URI") hs ≡ Some m.target
+  version : value_in (bytes "SERVER_PROTOCOL") hs ≡ Some m.version
   content_type : value_in (bytes "CONTENT_TYPE") hs ≡ m.content_type
 
 module _ (s : Settings) (r : Route) (m : Meaning) where
   said_at : (a : Option Auth) (c : Option (List ℕ)) → Said (variables (authed s a) r (typed m c)) (typed m c)
   unfolding fixed value_in same_bytes
-  said_at none none = record { method = refl; target = refl; version = refl; content_type = no_http m.fields }
-  said_at none (some c) = record { method = refl; target = refl; version = refl; content_type = refl }
-  said_at (some a) none = record { method = refl; target = refl; version = refl; content_type = no_http m.fields }
-  said_at (some a) (some c) = record { method = refl; target = refl; version = refl; content_type = refl }
+  said_at None None = record { method = refl; target = refl; version = refl; content_type = no_http m.fields }
+  said_at None (Some c) = record { method = refl; target = refl; version = refl; content_type = refl }
+  said_at (Some a) None = record { method = refl; target = refl; version = refl; content_type = no_http m.fields }
+  said_at (Some a) (Some c) = record { method = refl; target = refl; version = refl; content_type = refl }
 
   said : Said (variables s r m) m
   said = said_at s.auth m.content_type
@@ -75,10 +75,10 @@ as_many :
     (s : Settings) (r r' : Route) (m m' : Meaning) (n n' : ℕ) (a : Option Auth) (c : Option (List ℕ))
     → length (fixed (authed s a) r (typed m c) n) ≡ length (fixed (authed s a) r' (typed m' c) n')
 unfolding fixed
-as_many s r r' m m' n n' none none = refl
-as_many s r r' m m' n n' none (some c) = refl
-as_many s r r' m m' n n' (some a) none = refl
-as_many s r r' m m' n n' (some a) (some c) = refl
+as_many s r r' m m' n n' None None = refl
+as_many s r r' m m' n n' None (Some c) = refl
+as_many s r r' m m' n n' (Some a) None = refl
+as_many s r r' m m' n n' (Some a) (Some c) = refl
 
 same-field : (f g : Field) → f.name ≡ g.name → f.value ≡ g.value → f ≡ g
 same-field f g n v =
@@ -110,9 +110,9 @@ pub variables-once :
 variables-once s r r' m m' p p' e b =
     let x = said s r m in
     let y = said s r' m' in
-    let method : some m.method ≡ some m'.method = sym x.method ∙ ap (value_in (bytes "REQUEST_METHOD")) e ∙ y.method in
-    let target : some m.target ≡ some m'.target = sym x.target ∙ ap (value_in (bytes "REQUEST_URI")) e ∙ y.target in
-    let version : some m.version ≡ some m'.version = sym x.version ∙ ap (value_in (bytes "SERVER_PROTOCOL")) e ∙ y.version in
+    let method : Some m.method ≡ Some m'.method = sym x.method ∙ ap (value_in (bytes "REQUEST_METHOD")) e ∙ y.method in
+    let target : Some m.target ≡ Some m'.target = sym x.target ∙ ap (value_in (bytes "REQUEST_URI")) e ∙ y.target in
+    let version : Some m.version ≡ Some m'.version = sym x.version ∙ ap (value_in (bytes "SERVER_PROTOCOL")) e ∙ y.version in
     let content_type : m.content_type ≡ m'.content_type = sym x.content_type ∙ ap (value_in (bytes "CONTENT_TYPE")) e ∙ y.content_type in
     let a = fixed s r m (length m.body) in
     let a' = fixed s r' m' (length m'.body) in
@@ -130,20 +130,20 @@ variables-once s r r' m m' p p' e b =
 -- The headers can stand in a block.
 
 data Fine : Option Header → Type 0 where
-  left_out : Fine none
-  written : {h : Header} → Proper h → Fine (some h)
+  left_out : Fine None
+  written : {h : Header} → Proper h → Fine (Some h)
 
 present-proper : (rows : List (Option Header)) → All Fine rows → All Proper (present rows)
 present-proper [] no_more = no_more
-present-proper (none ∷ rows) (p & ps) = present-proper rows ps
-present-proper (some h ∷ rows) (written p & ps) = p & present-proper rows ps
+present-proper (None ∷ rows) (p & ps) = present-proper rows ps
+present-proper (Some h ∷ rows) (written p & ps) = p & present-proper rows ps
 
-row : {h : Header} → is_nil h.name ≡ false → has_no_nul h.name ≡ true → NoNul h.value → Fine (some h)
+row : {h : Header} → is_nil h.name ≡ false → has_no_nul h.name ≡ true → NoNul h.value → Fine (Some h)
 row {h} e t p = written (record { named = e; name_bytes = no_nul h.name t; value_bytes = p })
 
 if-row : (n : String) (o : Option (List ℕ)) → is_nil (bytes n) ≡ false → has_no_nul (bytes n) ≡ true → Optionally NoNul o → Fine (if_present n o)
-if-row n none e t absent = left_out
-if-row n (some v) e t (there p) = row e t p
+if-row n None e t absent = left_out
+if-row n (Some v) e t (there p) = row e t p
 
 decimal-bytes : (n : ℕ) → NoNul (decimal n)
 unfolding is_digit

@@ -1,7 +1,6 @@
 -- What is claimed of the variables of a request.
 -- Assumes nothing.
-use Rattle.std.specs.Prelude.{ℕ, ◌+◌, ◌*◌, ◌≤◌, ◌≡◌, Bool, true, not, ◌&&◌, List, ◌∷◌, map, length}
-use Rattle.std.proofs.Math.Option.{Option, none, some}
+use Rattle.std.specs.Prelude.{ℕ, ◌+◌, ◌*◌, ◌≤◌, ◌≡◌, Bool, true, not, ◌&&◌, List, ◌∷◌, map, length, Option, None, Some}
 use Rattle.octets.specs.Text.{bytes}
 use Rattle.octets.specs.Outcome.{gives}
 use Rattle.octets.specs.Kinds.{within, is_name}
@@ -37,8 +36,8 @@ field_names fs = map (λ (f : Field). f.name) fs
 
 -- an optional text
 pub data Optionally (P : List ℕ → Type 0) : Option (List ℕ) → Type 0 where
-  absent : Optionally P none
-  there : {v : List ℕ} → P v → Optionally P (some v)
+  absent : Optionally P None
+  there : {v : List ℕ} → P v → Optionally P (Some v)
 
 pub record ProperMeaning (m : Meaning) : Type 0 where
   pub method : NoNul m.method

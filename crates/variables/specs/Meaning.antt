@@ -1,7 +1,6 @@
 -- What an HTTP request means.
 -- Assumes nothing.
-use Rattle.std.specs.Prelude.{ℕ, List}
-use Rattle.std.proofs.Math.Option.{Option}
+use Rattle.std.specs.Prelude.{ℕ, List, Option}
 use Rattle.octets.specs.Text.{bytes}
 use Rattle.http_head.specs.Fields.{Field}
 use Rattle.http_head.specs.RequestLine.{FirstLine}

@@ -1,8 +1,7 @@
 -- The variables of a request.
 -- Assumes nothing.
-use Rattle.std.specs.Prelude.{ℕ, cond, List, [], ◌∷◌, ◌++◌, map, eqb, length}
+use Rattle.std.specs.Prelude.{ℕ, cond, List, [], ◌∷◌, ◌++◌, map, eqb, length, Option, None, Some}
 use Prim.Native.String.{String}
-use Rattle.std.proofs.Math.Option.{Option, none, some}
 use Rattle.octets.specs.Text.{bytes}
 use Rattle.octets.specs.Compare.{upper_of}
 use Rattle.octets.specs.Decimal.{decimal}
@@ -15,11 +14,11 @@ use Rattle.variables.specs.Meaning.{Meaning}
 
 -- a variable, and one in brackets: "a bracket meaning "if present""
 abbrev pub always : String → List ℕ → Option Header
-always n v = some (record { name = bytes n; value = v })
+always n v = Some (record { name = bytes n; value = v })
 
 abbrev pub if_present : String → Option (List ℕ) → Option Header
-if_present n none = none
-if_present n (some v) = always n v
+if_present n None = None
+if_present n (Some v) = always n v
 
 -- rows of variables; a row is none where its variable is not there
 abbrev pub Rows : Type 0
@@ -27,16 +26,16 @@ Rows = List (Option Header)
 
 abbrev pub present : Rows → List Header
 present [] = []
-present (none ∷ hs) = present hs
-present (some h ∷ hs) = h ∷ present hs
+present (None ∷ hs) = present hs
+present (Some h ∷ hs) = h ∷ present hs
 
 abbrev pub auth_type_of : Option Auth → Option (List ℕ)
-auth_type_of none = none
-auth_type_of (some a) = some a.auth_type
+auth_type_of None = None
+auth_type_of (Some a) = Some a.auth_type
 
 abbrev pub remote_user_of : Option Auth → Option (List ℕ)
-remote_user_of none = none
-remote_user_of (some a) = some a.remote_user
+remote_user_of None = None
+remote_user_of (Some a) = Some a.remote_user
 
 -- of a field name's byte: "letters to upper case, `-` to `_`", which are 45 and 95
 abbrev pub variable_byte : ℕ → ℕ

@@ -1,4 +1,4 @@
-use mathlib.Core.Option.{some}
+use Rattle.std.proofs.Common.{Some}
 use mathlib.Core.Path.{◌≡◌, refl, sym, ap, ◌∙◌}
 use native.Mathlib.Omega.{arith}
 use Rattle.octets.proofs.Lists.{part}
@@ -19,7 +19,7 @@ held c = sym c.find-l.ensures ∙ ap lookup_outcome c.in-Found.is
 got :
     (c : In-At)
     → (let a = c.args in
-    lookup_of a.block.now a.name.now ≡ gives (some (record { start = c.in-At.start; len = c.in-At.len })))
+    lookup_of a.block.now a.name.now ≡ gives (Some (record { start = c.in-At.start; len = c.in-At.len })))
 got c = held (goal.at.overflow_add-result c).In-Found ∙ ap (λ x. gives (place_option x)) c.in-At.is
 
 pub returns-in_default : goal.returns-in_default

@@ -1,7 +1,7 @@
 use mathlib.Core.Path.{◌≡◌, sym, ap}
 use mathlib.Core.Bool.{Bool}
 use mathlib.Core.List.{List}
-use mathlib.Core.Option.{Option, none}
+use Rattle.std.proofs.Common.{Option, None}
 use Prim.Native.Nat.{ℕ, ◌≤◌}
 use lib.ListN.{length, drop, length-drop}
 use Rattle.octets.specs.Kinds.{is_blank}
@@ -13,7 +13,7 @@ use native.Mathlib.Omega.{arith}
 use Rattle.http_head.proofs.fields.field_line.Goals as goal
 use Rattle.http_head.proofs.fields.field_line.Goals.{After-blank_end-v, After-kept_len-k}
 
-malformed : (rule : ℕ → Bool) (line : List ℕ) → field_of rule line ≡ none → none ≡ numbers_of rule line
+malformed : (rule : ℕ → Bool) (line : List ℕ) → field_of rule line ≡ None → None ≡ numbers_of rule line
 malformed rule line e = sym (ap (λ (o : Option Field). numbers_if o line) e)
 
 -- the value lies within the line

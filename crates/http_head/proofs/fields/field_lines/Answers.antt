@@ -1,6 +1,6 @@
 use mathlib.Core.Path.{◌≡◌, refl, sym, ap, ◌∙◌}
 use mathlib.Core.List.{List, [], ◌∷◌}
-use mathlib.Core.Option.{Option, none, some}
+use Rattle.std.proofs.Common.{Option, None, Some}
 use Prim.Native.Nat.{ℕ, ◌+◌, ◌≤◌}
 use lib.ListN.{length, drop, length-set}
 use lib.Seq.{length-take-le}
@@ -20,18 +20,18 @@ use Rattle.http_head.proofs.fields.field_lines.Goals as goal
 use Rattle.http_head.proofs.fields.field_lines.Goals.{Else-n-eq64, In-At}
 
 -- what the answer for a line says, in each of its ways
-malformed : (head : List ℕ) (i : ℕ) (r : FieldPlace) → OneOf (1 ∷ []) (tag_of the_type r) → r ≡ place_of is_name head i → field_of is_name (lines_of (drop i head)).first ≡ none
+malformed : (head : List ℕ) (i : ℕ) (r : FieldPlace) → OneOf (1 ∷ []) (tag_of the_type r) → r ≡ place_of is_name head i → field_of is_name (lines_of (drop i head)).first ≡ None
 malformed head i (At n v k e) h p = absurd (eqb-false 0 1 refl h)
 malformed head i Malformed h p = by (field_of is_name (lines_of (drop i head)).first) p
   where
-    by : (o : Option Field) → Malformed ≡ place_if o i (lines_of (drop i head)).first → o ≡ none
-    by none e = refl
-    by (some f) e = cc
+    by : (o : Option Field) → Malformed ≡ place_if o i (lines_of (drop i head)).first → o ≡ None
+    by None e = refl
+    by (Some f) e = cc
 
 -- the field of the line l, which starts at i, with its numbers
 record Placed (i : ℕ) (l : List ℕ) (n v k e : ℕ) : Type 0 where
   field : Field
-  there : field_of is_name l ≡ some field
+  there : field_of is_name l ≡ Some field
   name : n ≡ name_length l
   value : v ≡ i + value_start l
   len : k ≡ value_length l
@@ -44,8 +44,8 @@ placed head i r n v k e q p = by (field_of is_name (lines_of (drop i head)).firs
     l = (lines_of (drop i head)).first
 
     by : (o : Option Field) → field_of is_name l ≡ o → At n v k e ≡ place_if o i l → Placed i l n v k e
-    by none x y = absurd (let z : ◌≡◌ {A = ℕ} 0 1 = cc in omega arith)
-    by (some f) x y = record { field = f; there = x; name = cc; value = cc; len = cc; ends = cc }
+    by None x y = absurd (let z : ◌≡◌ {A = ℕ} 0 1 = cc in omega arith)
+    by (Some f) x y = record { field = f; there = x; name = cc; value = cc; len = cc; ends = cc }
 
 -- a line that is left begins within the head
 begins : (c : Else-n-eq64) → c.loop-end.end + 2 ≤ length c.args.head.now

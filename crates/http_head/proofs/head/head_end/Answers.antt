@@ -1,7 +1,7 @@
 use mathlib.Core.Path.{◌≡◌, refl, sym, ap, ◌∙◌}
 use mathlib.Core.List.{[], ◌∷◌}
 use lib.Seq.{length-take-le}
-use mathlib.Core.Option.{none}
+use Rattle.std.proofs.Common.{None}
 use types.Run.{OneOf}
 use denote.Enum.Declared.{tag_of}
 use borrow.Author.Tests.{eqb-false}
@@ -13,7 +13,7 @@ use Rattle.http_head.specs.contracts.head.End.{the_type}
 use Rattle.http_head.proofs.Heads.{under-limit, over-limit}
 use Rattle.http_head.proofs.head.head_end.Goals as goal
 
-nowhere : (e : End) → OneOf (1 ∷ []) (tag_of the_type e) → end_option e ≡ none
+nowhere : (e : End) → OneOf (1 ∷ []) (tag_of the_type e) → end_option e ≡ None
 nowhere (At n) h = absurd (eqb-false 0 1 refl h)
 nowhere Nowhere h = refl
 

@@ -1,5 +1,5 @@
 use mathlib.Core.Path.{◌≡◌}
-use mathlib.Core.Option.{some}
+use Rattle.std.proofs.Common.{Some}
 use Rattle.lent.proofs.SettingSteps.{well-named, looked-up, no-auth, user-alone, type-alone, empty-type, empty-user, is-auth}
 use Rattle.octets.specs.Outcome.{gives}
 use Rattle.octets.specs.Text.{bytes}
@@ -10,12 +10,12 @@ use Rattle.lent.proofs.settings.find_auth.Goals.{In-At, In-At-u}
 -- the places, where the patterns matched
 type-got :
     (c : In-At)
-    → lookup_of c.args.facts.now (bytes "AUTH_TYPE") ≡ gives (some (record { start = c.in-At.start; len = c.in-At.len }))
+    → lookup_of c.args.facts.now (bytes "AUTH_TYPE") ≡ gives (Some (record { start = c.in-At.start; len = c.in-At.len }))
 type-got c = looked-up _ _ _ _ c.seek_by-t.ensures c.in-At.is
 
 user-got :
     (c : In-At-u)
-    → lookup_of c.args.facts.now (bytes "REMOTE_USER") ≡ gives (some (record { start = c.in-At-u.user_start; len = c.in-At-u.user_len }))
+    → lookup_of c.args.facts.now (bytes "REMOTE_USER") ≡ gives (Some (record { start = c.in-At-u.user_start; len = c.in-At-u.user_len }))
 user-got c = looked-up _ _ _ _ c.seek_by-u.ensures c.in-At-u.is
 
 pub seek_by-t-requires : goal.seek_by-t-requires

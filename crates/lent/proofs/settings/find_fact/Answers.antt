@@ -1,5 +1,5 @@
 use mathlib.Core.Path.{◌≡◌}
-use mathlib.Core.Option.{some}
+use Rattle.std.proofs.Common.{Some}
 use Rattle.lent.proofs.SettingSteps.{well-named, looked-up, no-fact, empty-fact, is-fact}
 use Rattle.octets.specs.Outcome.{gives}
 use Rattle.headers.specs.Lookup.{lookup_of}
@@ -10,7 +10,7 @@ use Rattle.lent.proofs.settings.find_fact.Goals.{In-At}
 got :
     (c : In-At)
     → (let a = c.args in
-    lookup_of a.facts.now a.name.now ≡ gives (some (record { start = c.in-At.start; len = c.in-At.len })))
+    lookup_of a.facts.now a.name.now ≡ gives (Some (record { start = c.in-At.start; len = c.in-At.len })))
 got c = looked-up _ _ _ _ c.seek_by-p.ensures c.in-At.is
 
 pub seek_by-p-requires : goal.seek_by-p-requires

@@ -7,4 +7,4 @@ pub nonzero_div-result : goal.nonzero_div-result
 nonzero_div-result c = omega (arith, c.number.ensures, number-some c.args.kind)
 
 pub returns : goal.returns
-returns c = rw (c.number.ensures, c.requires) (kind_at c.args.kind c.args.b (search rules))
+returns c = rw (c.number.ensures, c.kinds_of.ensures) (kind_at c.args.kind c.args.b (search rules))

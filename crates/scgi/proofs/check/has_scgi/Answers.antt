@@ -1,4 +1,4 @@
-use mathlib.Core.Option.{some}
+use Rattle.std.proofs.Common.{Some}
 use mathlib.Core.Path.{◌≡◌, sym, ap, ◌∙◌}
 use native.Mathlib.Omega.{arith}
 use Rattle.octets.proofs.Lists.{part}
@@ -14,7 +14,7 @@ use Rattle.scgi.proofs.check.has_scgi.Goals.{In-At}
 -- the place, where the pattern matched
 got :
     (c : In-At)
-    → lookup_of c.args.block.now (bytes "SCGI") ≡ gives (some (record { start = c.in-At.start; len = c.in-At.len }))
+    → lookup_of c.args.block.now (bytes "SCGI") ≡ gives (Some (record { start = c.in-At.start; len = c.in-At.len }))
 got c = sym c.seek_by-p.ensures ∙ ap (λ p. gives (place_option p)) c.in-At.is
 
 pub seek_by-p-requires : goal.seek_by-p-requires
