@@ -1,7 +1,6 @@
 // Where a run of bytes ends, sixteen bytes tested at once.
 ghost use Rattle.std.specs.Prelude.{◌≡◌, not, ◌+◌, ◌≤◌, length, take, drop};
 ghost use Rattle.octets.specs.Kinds.{is_value};
-ghost use Rattle.octets.specs.KindTable.{table};
 ghost use Rattle.octets.specs.Scan.{run, all_of, other};
 
 use octets::kinds::Kind;
@@ -29,18 +28,18 @@ fn breaks(s: &[u8], i: usize) -> bool
 }
 
 // The end of the run of value bytes that begins at from. Sixteen bytes are tested at once, for speed.
-pub fn value_end(kinds: &[u8; 256], s: &[u8], from: usize) -> usize
-    requires { (kinds.now ≡ table) × (from ≤ length s.now) }
+pub fn value_end(s: &[u8], from: usize) -> usize
+    requires { from ≤ length s.now }
     ensures { result ≡ from + run is_value (drop from s.now) }
 {
     let mut i = from;
     while 16 <= s.len() - i {
         if breaks(s, i) {
-            return run_end(kinds, Kind::Value, s, i);
+            return run_end(Kind::Value, s, i);
         }
         i += 16;
     }
-    run_end(kinds, Kind::Value, s, i)
+    run_end(Kind::Value, s, i)
 }
 
 // Whether one of the sixteen bytes from i on is b.
