@@ -1,6 +1,6 @@
 -- What is claimed of the head of a request: where it ends, its request line and its field lines.
 -- Assumes nothing.
-use Rattle.std.specs.Prelude.{ℕ, ◌+◌, ◌-◌, ◌≤◌, ◌<◌, ◌≡◌, Bool, true, ◌↔◌, List, [], ◌∷◌, ◌++◌, length, take, drop, Some}
+use Rattle.std.specs.Prelude.{ℕ, ◌+◌, ◌-◌, ◌≤◌, ◌<◌, ◌≡◌, Bool, true, ◌↔◌, List, [], ◌∷◌, ◌++◌, length, take, drop, get_or, Some, Ok, Err}
 use Rattle.octets.specs.Outcome.{refused, gives}
 use Rattle.octets.specs.Kinds.{one_of, is_value}
 use Rattle.octets.specs.Scan.{all_of}
@@ -20,9 +20,13 @@ use Rattle.http_head.specs.Fields.{
   field_at,
   fields_at,
   AllInside,
+  nowhere,
+  part_at,
 }
-use Rattle.http_head.specs.declared.request_line.RequestLine.TheVariants.{Line, Refused as LineRefused}
-use Rattle.http_head.specs.declared.fields.Fields.TheVariants.{Count, Refused as FieldsRefused}
+use Rattle.octets.specs.Refusal.{number_of}
+use Rattle.octets.specs.declared.refusal.Refusal.{Refusal}
+use Rattle.http_head.specs.declared.request_line.RequestLine.{RequestLine}
+use Rattle.http_head.specs.declared.fields.Field.{Field as Spans}
 
 -- THE HEAD
 
@@ -63,15 +67,16 @@ abbrev pub LineIsMade : Type 0
 LineIsMade = (line : List ℕ) (f : FirstLine) → (request_line_of line ≡ gives f) ↔ Reads line f
 
 -- the parts of a request line stand at the places that the answer tells
-pub record LineStands (line : List ℕ) (m t k d : ℕ) : Type 0 where
-  pub answer : gives (record { method = take m line; target = take k (drop t line); version = version_text d }) ≡ request_line_of line
-  pub method_inside : m ≤ length line
-  pub target_inside : t + k ≤ length line
-  pub minor_is : d ≤ 1
+pub record LineStands (line : List ℕ) (l : RequestLine) : Type 0 where
+  pub answer :
+      gives (record { method = take l.method_len line; target = part_at line l.target; version = version_text l.minor }) ≡ request_line_of line
+  pub method_inside : l.method_len ≤ length line
+  pub target_inside : l.target.start + l.target.len ≤ length line
+  pub minor_is : l.minor ≤ 1
 
 pub record LinesTold : Type 0 where
-  pub accepts : (line : List ℕ) (m t k d : ℕ) → line_outcome (Line m t k d) ≡ line_places_of line → LineStands line m t k d
-  pub refuses : (line : List ℕ) (n : ℕ) → line_outcome (LineRefused n) ≡ line_places_of line → refused n ≡ request_line_of line
+  pub accepts : (line : List ℕ) (l : RequestLine) → line_outcome (Ok l) ≡ line_places_of line → LineStands line l
+  pub refuses : (line : List ℕ) (e : Refusal) → line_outcome (Err e) ≡ line_places_of line → refused (number_of e) ≡ request_line_of line
 
 -- THE FIELD LINES
 
@@ -97,19 +102,20 @@ pub record FieldsObey : Type 0 where
   pub few : (rule : ℕ → Bool) (lines : List (List ℕ)) (fs : List Field) → fields_of rule lines ≡ gives fs → length fs ≤ 64
 
 -- the fields of a head's lines are those that stand in it at the n places that are stored, in order
-pub record FieldsStand (rule : ℕ → Bool) (head places : List ℕ) (n : ℕ) : Type 0 where
-  pub answer : gives (fields_at head places 0 n) ≡ fields_of rule (lines_of head).others
-  pub inside : AllInside head places n
+pub record FieldsStand (rule : ℕ → Bool) (head : List ℕ) (places : List Spans) (n : ℕ) : Type 0 where
+  pub answer : gives (fields_at head (take n places)) ≡ fields_of rule (lines_of head).others
+  pub inside : AllInside head (take n places)
+  pub room : n ≤ length places
   pub count : n ≡ length (lines_of head).others
   pub few : n ≤ 64
 
 pub record FieldsTold : Type 0 where
   pub accepts :
-      (rule : ℕ → Bool) (head before after : List ℕ) (n : ℕ) → Stored rule head before after (Count n)
+      (rule : ℕ → Bool) (head : List ℕ) (before after : List Spans) (n : ℕ) → Stored rule head before after (Ok n)
       → FieldsStand rule head after n
   pub refuses :
-      (rule : ℕ → Bool) (head before after : List ℕ) (k : ℕ) → Stored rule head before after (FieldsRefused k)
-      → refused k ≡ fields_of rule (lines_of head).others
+      (rule : ℕ → Bool) (head : List ℕ) (before after : List Spans) (e : Refusal) → Stored rule head before after (Err e)
+      → refused (number_of e) ≡ fields_of rule (lines_of head).others
 
 -- how many bytes field lines take at least, each with its colon and its CR LF
 unfoldable pub fields_size : List Field → ℕ
@@ -123,12 +129,12 @@ HeadHolds =
     → fields_of rule (lines_of head).others ≡ gives fs
     → (length f.version ≡ 8) × (length f.method + length f.target + 10 + fields_size fs ≤ length head)
 
--- n stored fields, one after the other: the one with number k, and those after it
+-- stored fields, one after the other: the one with number k, and those after it
 pub record FieldsInTurn : Type 0 where
   pub next :
-      (head places : List ℕ) (n k : ℕ) → k < n
-      → fields_at head places k (n - k) ≡ field_at head places k ∷ fields_at head places (k + 1) (n - (k + 1))
-  pub end : (head places : List ℕ) (n k : ℕ) → n ≤ k → fields_at head places k (n - k) ≡ []
+      (head : List ℕ) (places : List Spans) (k : ℕ) → k < length places
+      → fields_at head (drop k places) ≡ field_at head (get_or places k nowhere) ∷ fields_at head (drop (k + 1) places)
+  pub end : (head : List ℕ) (places : List Spans) (k : ℕ) → length places ≤ k → fields_at head (drop k places) ≡ []
 
 -- no other number is given: 11 or 1 for the head, 12 or 13 for the request line, 15 for the field lines
 pub record NumbersHold : Type 0 where

@@ -1,18 +1,15 @@
--- Field lines, and the places of fields in a lent list of numbers.
+-- Field lines, and the places of fields in a lent list.
 -- Assumes nothing.
-use Rattle.std.specs.Prelude.{ℕ, zero, suc, ◌+◌, ◌*◌, ◌≤◌, ◌<◌, ◌≡◌, Bool, cond, ◌&&◌, List, [], ◌∷◌, leb, ltb, length, take, drop, get_or, Option, None, Some}
-use Rattle.octets.specs.Outcome.{Outcome, refused, gives, then, given}
+use Rattle.std.specs.Prelude.{ℕ, ◌+◌, ◌≤◌, ◌<◌, ◌≡◌, Bool, cond, ◌&&◌, List, [], ◌∷◌, ◌++◌, leb, ltb, length, map, take, drop, get_or, Option, None, Some, Result, Ok, Err}
+use Rattle.octets.specs.Outcome.{Outcome, gives, then, given}
 use Rattle.octets.specs.Kinds.{is_blank, is_value}
 use Rattle.octets.specs.Scan.{run, all_of, other}
 use Rattle.octets.specs.Trim.{trimmed}
-use Rattle.octets.specs.Copy.{over}
 use Rattle.http_head.specs.Lines.{lines_of, line_run}
-use Rattle.http_head.specs.declared.fields.FieldLine.{FieldLine}
-use Rattle.http_head.specs.declared.fields.FieldLine.TheVariants.{Field as LineField, Malformed}
-use Rattle.http_head.specs.declared.fields.FieldPlace.{FieldPlace}
-use Rattle.http_head.specs.declared.fields.FieldPlace.TheVariants.{At, Malformed as NoPlace}
-use Rattle.http_head.specs.declared.fields.Fields.{Fields}
-use Rattle.http_head.specs.declared.fields.Fields.TheVariants.{Count, Refused}
+use Rattle.octets.specs.Refusal.{outcome}
+use Rattle.octets.specs.declared.refusal.Refusal.{Refusal}
+use Rattle.octets.specs.declared.span.Span.{Span}
+use Rattle.http_head.specs.declared.fields.Field.{Field as Spans}
 
 -- "a name, `:`, a value"
 pub record Field : Type 0 where
@@ -67,77 +64,84 @@ fields_in k rule lines = cond (leb (length lines) k) (each_field rule lines) Non
 abbrev pub fields_of : (ℕ → Bool) → List (List ℕ) → Outcome (List Field)
 fields_of rule lines = given (fields_in 64 rule lines) 15
 
--- where the field of a line stands in it: how long its name is, where its value starts, and how long that is
-pub record FieldNumbers : Type 0 where
-  pub name : ℕ
-  pub value : ℕ
-  pub len : ℕ
+-- where the field of a line stands in it: its name starts the line
+abbrev pub line_spans : List ℕ → Spans
+line_spans line =
+    record {
+      name = record { start = 0; len = name_length line };
+      value = record { start = value_start line; len = value_length line };
+    }
 
-abbrev pub numbers_if : Option Field → List ℕ → Option FieldNumbers
-numbers_if None line = None
-numbers_if (Some f) line = Some (record { name = name_length line; value = value_start line; len = value_length line })
+-- .. where the line has one
+abbrev pub spans_if : Option Field → List ℕ → Option Spans
+spans_if None line = None
+spans_if (Some f) line = Some (line_spans line)
 
-abbrev pub numbers_of : (ℕ → Bool) → List ℕ → Option FieldNumbers
-numbers_of rule line = numbers_if (field_of rule line) line
+abbrev pub spans_of : (ℕ → Bool) → List ℕ → Option Spans
+spans_of rule line = spans_if (field_of rule line) line
 
--- what the code's answer says
-abbrev pub line_option : FieldLine → Option FieldNumbers
-line_option (LineField n v k) = Some (record { name = n; value = v; len = k })
-line_option Malformed = None
+-- the same for a line that starts at a place in a head
+abbrev pub spans_at : ℕ → List ℕ → Spans
+spans_at at line =
+    record {
+      name = record { start = at; len = name_length line };
+      value = record { start = at + value_start line; len = value_length line };
+    }
 
--- the same for a line that starts at a place in a head, and where the line ends there
-abbrev pub place_if : Option Field → ℕ → List ℕ → FieldPlace
-place_if None at line = NoPlace
-place_if (Some f) at line = At (name_length line) (at + value_start line) (value_length line) (at + length line)
+-- .. and where the line ends there
+abbrev pub place_if : Option Field → ℕ → List ℕ → Option (Spans × ℕ)
+place_if None at line = None
+place_if (Some f) at line = Some (spans_at at line, at + length line)
 
-abbrev pub place_of : (ℕ → Bool) → List ℕ → ℕ → FieldPlace
+abbrev pub place_of : (ℕ → Bool) → List ℕ → ℕ → Option (Spans × ℕ)
 place_of rule head at = let line = (lines_of (drop at head)).first in place_if (field_of rule line) at line
 
--- four numbers for each line, of which the first starts at a place: the start and length of its name and of its value. Two bytes, CR LF,
--- stand between a line and the next
-unfoldable pub places_from : ℕ → List (List ℕ) → List ℕ
+-- where the fields of lines stand, of which the first starts at a place. Two bytes, CR LF, stand between a line and the next
+unfoldable pub places_from : ℕ → List (List ℕ) → List Spans
 places_from at [] = []
-places_from at (l ∷ ls) = at ∷ (name_length l ∷ ((at + value_start l) ∷ (value_length l ∷ places_from (at + length l + 2) ls)))
+places_from at (l ∷ ls) = spans_at at l ∷ places_from (at + length l + 2) ls
 
 -- .. for each line of a head but the first
-abbrev pub places_of : List ℕ → List ℕ
+abbrev pub places_of : List ℕ → List Spans
 places_of head = places_from (line_run head + 2) (lines_of head).others
 
 -- what the code's answer says: how many fields there are
-abbrev pub fields_outcome : Fields → Outcome ℕ
-fields_outcome (Count n) = gives n
-fields_outcome (Refused k) = refused k
+abbrev pub fields_outcome : Result ℕ Refusal → Outcome ℕ
+fields_outcome = outcome (λ n. n)
 
--- the list before and after: the numbers are stored at its front, and else it is as it was; on 15 the first 256 numbers may be any
-abbrev pub StoredAs : List ℕ → List ℕ → List ℕ → Fields → Type 0
-StoredAs head before after (Count n) = after ≡ over before 0 (places_of head)
-StoredAs head before after (Refused k) = (length after ≡ length before) × (drop 256 after ≡ drop 256 before)
+-- the list before and after: the places are stored at its front, and else it is as it was; on 15 the first 64 may be any
+abbrev pub StoredAs : List ℕ → List Spans → List Spans → Result ℕ Refusal → Type 0
+StoredAs head before after (Ok n) = after ≡ places_of head ++ drop (length (places_of head)) before
+StoredAs head before after (Err e) = (length after ≡ length before) × (drop 64 after ≡ drop 64 before)
 
 -- the answer r, and the list before and after, are those of the field lines of a head
-pub record Stored (rule : ℕ → Bool) (head before after : List ℕ) (r : Fields) : Type 0 where
+pub record Stored (rule : ℕ → Bool) (head : List ℕ) (before after : List Spans) (r : Result ℕ Refusal) : Type 0 where
   pub answer : fields_outcome r ≡ then (fields_of rule (lines_of head).others) (λ fs. gives (length fs))
-  pub numbers : StoredAs head before after r
+  pub places : StoredAs head before after r
 
 -- THE FIELDS THAT STAND AT STORED PLACES
 
--- the field with number k, whose four numbers stand from 4 * k on in a list: start and length of its name, start and length of its value
-abbrev pub field_at : List ℕ → List ℕ → ℕ → Field
-field_at head ps k =
-    record {
-      name = take (get_or ps (4 * k + 1) 0) (drop (get_or ps (4 * k) 0) head);
-      value = take (get_or ps (4 * k + 3) 0) (drop (get_or ps (4 * k + 2) 0) head);
-    }
+-- the bytes that stand at a place
+abbrev pub part_at : List ℕ → Span → List ℕ
+part_at head s = take s.len (drop s.start head)
 
--- n fields, the first with number k
-unfoldable pub fields_at : List ℕ → List ℕ → ℕ → ℕ → List Field
-fields_at head ps k zero = []
-fields_at head ps k (suc n) = field_at head ps k ∷ fields_at head ps (k + 1) n
+-- the field that stands there
+abbrev pub field_at : List ℕ → Spans → Field
+field_at head f = record { name = part_at head f.name; value = part_at head f.value }
 
--- the name and the value of the field with number k lie in head
-pub record Inside (head ps : List ℕ) (k : ℕ) : Type 0 where
-  pub name : get_or ps (4 * k) 0 + get_or ps (4 * k + 1) 0 ≤ length head
-  pub value : get_or ps (4 * k + 2) 0 + get_or ps (4 * k + 3) 0 ≤ length head
+-- .. and so for each place
+abbrev pub fields_at : List ℕ → List Spans → List Field
+fields_at head fs = map (field_at head) fs
 
--- .. and so for the first n
-abbrev pub AllInside : List ℕ → List ℕ → ℕ → Type 0
-AllInside head ps n = (k : ℕ) → k < n → Inside head ps k
+-- the name and the value of a field lie in head
+pub record Inside (head : List ℕ) (f : Spans) : Type 0 where
+  pub name : f.name.start + f.name.len ≤ length head
+  pub value : f.value.start + f.value.len ≤ length head
+
+-- no place in a list
+abbrev pub nowhere : Spans
+nowhere = record { name = record { start = 0; len = 0 }; value = record { start = 0; len = 0 } }
+
+-- .. and so for each field of a list
+abbrev pub AllInside : List ℕ → List Spans → Type 0
+AllInside head fs = (k : ℕ) → k < length fs → Inside head (get_or fs k nowhere)

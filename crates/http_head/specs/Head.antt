@@ -1,20 +1,13 @@
 -- Where the head of a request ends.
 -- Assumes nothing.
-use Rattle.std.specs.Prelude.{◌≡◌, ℕ, ◌+◌, ◌≤◌, Bool, cond, ◌&&◌, List, [], ◌∷◌, eqb, leb, length, take, drop, get_or, Option, None, Some}
-use Rattle.octets.specs.Outcome.{Outcome, refused, gives, given}
-use Rattle.http_head.specs.declared.head.End.{End}
-use Rattle.http_head.specs.declared.head.End.TheVariants.{At, Nowhere}
-use Rattle.http_head.specs.declared.head.Head.{Head}
-use Rattle.http_head.specs.declared.head.Head.TheVariants.{Bytes, Refused}
+use Rattle.std.specs.Prelude.{◌≡◌, ℕ, ◌+◌, ◌≤◌, Bool, cond, ◌&&◌, List, [], ◌∷◌, eqb, leb, length, take, drop, get_or, Option, None, Some, Result}
+use Rattle.octets.specs.Outcome.{Outcome, given}
+use Rattle.octets.specs.Refusal.{outcome}
+use Rattle.octets.specs.declared.refusal.Refusal.{Refusal}
 
--- what the code's answers say
-abbrev pub end_option : End → Option ℕ
-end_option (At n) = Some n
-end_option Nowhere = None
-
-abbrev pub head_outcome : Head → Outcome ℕ
-head_outcome (Bytes n) = gives n
-head_outcome (Refused k) = refused k
+-- what the code's answer says
+abbrev pub head_outcome : Result ℕ Refusal → Outcome ℕ
+head_outcome = outcome (λ n. n)
 
 -- s begins with CR LF CR LF, which is 13 10 13 10
 abbrev pub ends_head : List ℕ → Bool

@@ -1,16 +1,16 @@
 -- The request line: the first line of a head, without its CR LF.
 -- Assumes nothing.
-use Rattle.std.specs.Prelude.{ℕ, ◌+◌, Bool, ◌&&◌, ◌||◌, List, [], ◌∷◌, ◌++◌, eqb, length, take, get_or}
+use Rattle.std.specs.Prelude.{ℕ, ◌+◌, Bool, ◌&&◌, ◌||◌, List, [], ◌∷◌, ◌++◌, eqb, length, take, get_or, Result}
 use Rattle.octets.specs.Text.{bytes}
 use Rattle.octets.specs.Outcome.{Outcome, refused, gives, then, need}
 use Rattle.octets.specs.Kinds.{is_digit, is_token, within}
 use Rattle.octets.specs.Scan.{all_of}
 use Rattle.octets.specs.Compare.{same_bytes}
 use Rattle.octets.specs.Parts.{parted}
-use Rattle.http_head.specs.declared.request_line.Version.{Version}
-use Rattle.http_head.specs.declared.request_line.Version.TheVariants.{Minor, Refused as VersionRefused}
+use Rattle.octets.specs.Refusal.{outcome}
+use Rattle.octets.specs.declared.refusal.Refusal.{Refusal}
+use Rattle.octets.specs.declared.span.Span.{Span}
 use Rattle.http_head.specs.declared.request_line.RequestLine.{RequestLine}
-use Rattle.http_head.specs.declared.request_line.RequestLine.TheVariants.{Line, Refused}
 
 -- "The first is method, space, target, space, version"
 pub record FirstLine : Type 0 where
@@ -53,16 +53,14 @@ version_text d = bytes "HTTP/1." ++ ((48 + d) ∷ [])
 -- where the parts of a request line stand in it: the method is its first bytes, the target starts one after the method's space
 pub record LineParts : Type 0 where
   pub method_length : ℕ
-  pub target_start : ℕ
-  pub target_length : ℕ
+  pub target : Span
   pub version : List ℕ
 
 abbrev pub line_places : FirstLine → LineParts
 line_places f =
     record {
       method_length = length f.method;
-      target_start = length f.method + 1;
-      target_length = length f.target;
+      target = record { start = length f.method + 1; len = length f.target };
       version = f.version;
     }
 
@@ -70,10 +68,11 @@ abbrev pub line_places_of : List ℕ → Outcome LineParts
 line_places_of line = then (request_line_of line) (λ f. gives (line_places f))
 
 -- what the code's answers say
-abbrev pub version_outcome : Version → Outcome (List ℕ)
-version_outcome (Minor d) = gives (version_text d)
-version_outcome (VersionRefused k) = refused k
+abbrev pub version_outcome : Result ℕ Refusal → Outcome (List ℕ)
+version_outcome = outcome version_text
 
-abbrev pub line_outcome : RequestLine → Outcome LineParts
-line_outcome (Line m t k d) = gives (record { method_length = m; target_start = t; target_length = k; version = version_text d })
-line_outcome (Refused k) = refused k
+abbrev pub line_told : RequestLine → LineParts
+line_told l = record { method_length = l.method_len; target = l.target; version = version_text l.minor }
+
+abbrev pub line_outcome : Result RequestLine Refusal → Outcome LineParts
+line_outcome = outcome line_told

@@ -1,29 +1,15 @@
 // Where the head of a request ends.
 ghost use Rattle.std.specs.Prelude.{◌≡◌, false, ◌+◌, ◌≤◌, ◌<◌, length, drop};
-ghost use Rattle.octets.specs.Outcome.{refusal_of};
-ghost use Rattle.http_head.specs.Head.{ends_head, end_from, end_option, Passed, head_outcome, head_of};
+ghost use Rattle.http_head.specs.Head.{ends_head, end_from, Passed, head_outcome, head_of};
+
+use octets::refusal::Refusal;
 
 // Whether CR LF CR LF stands at i.
 fn ends_head(s: &[u8], i: usize) -> bool
     requires { i + 3 < length s.now }
     ensures { result ≡ ends_head (drop i s.now) }
 {
-    if s[i] != b'\r' {
-        return false;
-    }
-    if s[i + 1] != b'\n' {
-        return false;
-    }
-    if s[i + 2] != b'\r' {
-        return false;
-    }
-    s[i + 3] == b'\n'
-}
-
-#[derive(Clone, Copy)]
-enum End {
-    At(usize),
-    Nowhere,
+    s[i] == b'\r' && s[i + 1] == b'\n' && s[i + 2] == b'\r' && s[i + 3] == b'\n'
 }
 
 // Goes on from a place by four bytes as long as the fourth of them is above CR, and so neither CR nor LF: no CR LF CR LF begins among the
@@ -33,6 +19,7 @@ fn skip(s: &[u8], from: usize) -> usize
     ensures { Passed s.now from result }
 {
     let mut i = from;
+    // A turn is sixteen bytes, or the last one: no `for`.
     while 15 < s.len() - i {
         if s[i + 3] <= b'\r' {
             return i;
@@ -58,10 +45,8 @@ fn turns(s: &[u8], i: usize) -> bool
     ensures { result ≡ false → Passed s.now i (i + 16) }
 {
     let mut hit = false;
-    let mut k: usize = 0;
-    while k < 16 {
+    for k in 0..16 {
         hit = hit | ((s[i + k + 1] == b'\n') & (s[i + k + 2] == b'\r'));
-        k += 1;
     }
     hit
 }
@@ -71,6 +56,7 @@ fn leap(s: &[u8]) -> usize
     ensures { Passed s.now 0 result }
 {
     let mut i: usize = 0;
+    // A turn is thirty-two bytes, and looks at two more: no `for`, and no chunks.
     while 34 <= s.len() - i {
         let first = turns(s, i);
         let second = turns(s, i + 16);
@@ -83,55 +69,30 @@ fn leap(s: &[u8]) -> usize
 }
 
 // The end of the first CR LF CR LF. Where fewer than sixteen bytes are left, they are passed by four as in skip.
-fn first_end(s: &[u8]) -> End
-    ensures { end_option result ≡ end_from 0 s.now }
+fn first_end(s: &[u8]) -> Option<usize>
+    ensures { result ≡ end_from 0 s.now }
 {
     let mut i = skip(s, leap(s));
+    // The steps vary: no `for`.
     while 3 < s.len() - i {
         if b'\r' < s[i + 3] {
             i += 4;
             continue;
         }
         if ends_head(s, i) {
-            return End::At(i + 4);
+            return Some(i + 4);
         }
         i = skip(s, i + 1);
     }
-    End::Nowhere
-}
-
-#[derive(Clone, Copy)]
-pub enum Head {
-    Bytes(usize),
-    Refused(u8),
-}
-
-impl Head {
-    // The number of the refusal.
-    pub fn number(self) -> u8
-        ensures { result ≡ refusal_of (head_outcome self) }
-    {
-        match self {
-            Head::Bytes(_) => 0,
-            Head::Refused(n) => n,
-        }
-    }
+    None
 }
 
 // How many bytes the head at the start of s has, with its CR LF CR LF.
-pub fn head_end(s: &[u8]) -> Head
+pub fn head_end(s: &[u8]) -> Result<usize, Refusal>
     ensures { head_outcome result ≡ head_of s.now }
 {
     if s.len() < 8192 {
-        let e = first_end(s);
-        let End::At(n) = e else {
-            return Head::Refused(1);
-        };
-        return Head::Bytes(n);
+        return first_end(s).ok_or(Refusal::Cut);
     }
-    let e = first_end(&s[..8192]);
-    let End::At(n) = e else {
-        return Head::Refused(11);
-    };
-    Head::Bytes(n)
+    first_end(&s[..8192]).ok_or(Refusal::HeadTooLong)
 }

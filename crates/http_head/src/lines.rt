@@ -9,23 +9,14 @@ fn ends_line(s: &[u8], i: usize) -> bool
     requires { i < length s.now }
     ensures { result ≡ ends_line (drop i s.now) }
 {
-    if s[i] != b'\r' {
-        return false;
-    }
-    if s.len() - i < 2 {
-        return false;
-    }
-    s[i + 1] == b'\n'
+    s[i] == b'\r' && 2 <= s.len() - i && s[i + 1] == b'\n'
 }
 
 // Whether a line ends at i, by CR LF or with s.
 pub(crate) fn is_line_end(s: &[u8], i: usize) -> bool
     ensures { result ≡ eqb (line_run (drop i s.now)) 0 }
 {
-    if s.len() <= i {
-        return true;
-    }
-    ends_line(s, i)
+    s.len() <= i || ends_line(s, i)
 }
 
 // The first CR LF of s at or after from, or the length of s. Goes from CR to CR, for speed.
@@ -34,6 +25,7 @@ pub fn line_end(s: &[u8], from: usize) -> usize
     ensures { result ≡ from + line_run (drop from s.now) }
 {
     let mut i = find_far(s, from, b'\r');
+    // The steps vary: no `for`.
     while i < s.len() {
         if ends_line(s, i) {
             return i;
