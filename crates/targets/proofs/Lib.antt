@@ -1,3 +1,4 @@
+pub mod Iterated
 pub mod Escapes
 pub mod Paths
 pub mod Targets

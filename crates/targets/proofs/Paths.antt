@@ -9,10 +9,12 @@ use native.Mathlib.Nat.{zero-add}
 use native.Mathlib.Omega.{arith}
 use lib.Dec.{eqb, leb}
 use lib.ListN.{length, take}
+use Rattle.std.proofs.Common.{Ok, Err}
 use borrow.Author.Tests.{eq-eqb, eqb-true, leb-true, not-true}
 use Rattle.octets.specs.Kinds.{is_digit, is_letter, is_target}
 use Rattle.octets.specs.Scan.{run, other, all_of, count}
 use Rattle.octets.specs.Copy.{Wrote}
+use Rattle.octets.specs.declared.refusal.Refusal.TheVariants as Because
 use Rattle.octets.proofs.Bools.{and_left, and_right}
 use Rattle.octets.proofs.ByteRules.{below}
 use Rattle.octets.proofs.Scans.{all-same-run}
@@ -20,7 +22,6 @@ use Rattle.octets.proofs.Copies.{length_over}
 use Rattle.octets.proofs.Copies as copies
 use Rattle.targets.specs.Escape.{decoded_from, decoded}
 use Rattle.targets.specs.Target.{is_plain, segments_right, decoded_right, PathRead}
-use Rattle.targets.specs.declared.target.TargetPlace.TheVariants.{Path, Refused}
 use Rattle.targets.proofs.Escapes.{decoded-le}
 
 -- The path p is decoded to the front of the buffer d; r is the length of what is written.
@@ -42,10 +43,10 @@ module _ (p d d' : List ℕ) (r : ℕ) (w : Wrote d 0 (decoded p) d' r) where
     pub front-judged : (n : ℕ) → n ≡ count 47 p → decoded_right (count 47 p) (decoded p) ≡ decoded_right n (take r d')
     front-judged n e = rw (e, w.holds, w.ends, copies.before d 0 (decoded p) decoded-room)
 
-  pub path-refused : decoded_right (count 47 p) (decoded p) ≡ false → PathRead p d d' (Refused 14)
+  pub path-refused : decoded_right (count 47 p) (decoded p) ≡ false → PathRead p d d' (Err Because.Target)
   path-refused q = record { answer = rw q; buffer = w.holds }
 
-  pub path-accepted : decoded_right (count 47 p) (decoded p) ≡ true → PathRead p d d' (Path (length p) r)
+  pub path-accepted : decoded_right (count 47 p) (decoded p) ≡ true → PathRead p d d' (Ok (record { path_len = length p; decoded_len = r }))
   path-accepted q = record { answer = rw (q, front_length); buffer = w.holds }
 
 -- A path without escapes.

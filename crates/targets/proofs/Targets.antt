@@ -9,10 +9,13 @@ use native.Mathlib.Omega.{arith}
 use lib.Dec.{eqb, leb, ltb}
 use lib.ListN.{length, take, drop, get_or, length-drop}
 use lib.Seq.{take_all, drop-drop, length-take-le}
+use Rattle.std.proofs.Common.{Result, Ok, Err}
 use borrow.Author.Tests.{eq-eqb, ne_eqb, le-leb, lt-leb, eqb-true, leb-true, leb-false, ltb-true, ltb-false}
 use Rattle.octets.specs.Kinds.{is_target}
 use Rattle.octets.specs.Scan.{run, other, all_of, count}
 use Rattle.octets.specs.Copy.{over}
+use Rattle.octets.specs.declared.refusal.Refusal.{Refusal}
+use Rattle.octets.specs.declared.refusal.Refusal.TheVariants as Because
 use Rattle.octets.proofs.Bools.{and_left, and_right, and-false}
 use Rattle.octets.proofs.Scans.{run-le, all_take, all-same-run}
 use Rattle.octets.proofs.Parting.{part-found, part_none}
@@ -33,9 +36,8 @@ use Rattle.targets.specs.Target.{
   PathRead,
 }
 use Rattle.targets.specs.Claims.{RawSays}
-use Rattle.targets.specs.declared.target.Raw.TheVariants.{Path as RawPath, Refused as RawRefused}
+use Rattle.targets.specs.declared.target.Raw.{Raw}
 use Rattle.targets.specs.declared.target.TargetPlace.{TargetPlace}
-use Rattle.targets.specs.declared.target.TargetPlace.TheVariants.{Path, Refused}
 use Rattle.targets.proofs.Escapes.{path-escapes}
 
 -- Segments, one at a time.
@@ -103,35 +105,35 @@ module _ (t : List ℕ) (n : ℕ) (e : n ≡ 0 + run (other 63) t) where
 -- What the tests of the target as it stands say; n is what a scan gives.
 
 module _ (t : List ℕ) where
-  pub raw-empty : length t ≡ 0 → raw_of t ≡ RawRefused 14
+  pub raw-empty : length t ≡ 0 → raw_of t ≡ Err Because.Target
   unfolding raw_right
   raw-empty h = simp h
 
-  pub raw-long : 4096 < length t → raw_of t ≡ RawRefused 14
+  pub raw-long : 4096 < length t → raw_of t ≡ Err Because.Target
   unfolding raw_right
   raw-long h = simp (lt-leb (length t) 4096 h, and-false)
 
-  pub raw-start : (get_or t 0 0 ≡ 47 → ⊥) → raw_of t ≡ RawRefused 14
+  pub raw-start : (get_or t 0 0 ≡ 47 → ⊥) → raw_of t ≡ Err Because.Target
   unfolding raw_right
   raw-start h = simp (ne_eqb _ _ h, and-false)
 
-  pub raw-byte : (n : ℕ) → n ≡ 0 + run is_target t → (n ≡ length t → ⊥) → raw_of t ≡ RawRefused 14
+  pub raw-byte : (n : ℕ) → n ≡ 0 + run is_target t → (n ≡ length t → ⊥) → raw_of t ≡ Err Because.Target
   unfolding raw_right
   raw-byte n e h =
       let f : all_of is_target t ≡ false = all-same-run is_target t ∙ ne_eqb _ _ (λ q. h (e ∙ zero-add (run is_target t) ∙ q)) in
       simp (f, and-false)
 
-  pub raw-escapes : escapes_right t ≡ false → raw_of t ≡ RawRefused 14
+  pub raw-escapes : escapes_right t ≡ false → raw_of t ≡ Err Because.Target
   unfolding raw_right
   raw-escapes e = simp (e, and-false)
 
-  pub raw-slashes : 64 < count 47 (path_of t) → raw_of t ≡ RawRefused 14
+  pub raw-slashes : 64 < count 47 (path_of t) → raw_of t ≡ Err Because.Target
   unfolding raw_right
   raw-slashes h = simp (lt-leb (count 47 (path_of t)) 64 h, and-false)
 
   pub raw-whole :
       (length t ≡ 0 → ⊥) → length t ≤ 4096 → get_or t 0 0 ≡ 47 → (n : ℕ) → n ≡ 0 + run is_target t → n ≡ length t → escapes_right t ≡ true
-      → count 47 (path_of t) ≤ 64 → raw_of t ≡ RawPath (length (path_of t)) (count 47 (path_of t))
+      → count 47 (path_of t) ≤ 64 → raw_of t ≡ Ok (record { path_len = length (path_of t); slashes = count 47 (path_of t) })
   unfolding raw_right
   raw-whole a b c n d m e f =
       let a' : 1 ≤ length t = omega arith in
@@ -162,16 +164,17 @@ raw-says t e =
 
 -- The whole call: after the step that judges the target as it stands, and after the path is decoded.
 
-pub raw-refused : (t d : List ℕ) (n : ℕ) → raw_of t ≡ RawRefused n → TargetRead t d d (Refused n)
+pub raw-refused : (t d : List ℕ) (e : Refusal) → raw_of t ≡ Err e → TargetRead t d d (Err e)
 unfolding target_of
-raw-refused t d n = by (raw_right t) refl
+raw-refused t d e = by (raw_right t) refl
   where
     by :
-        (x : Bool) → raw_right t ≡ x → cond x (RawPath (length (path_of t)) (count 47 (path_of t))) (RawRefused 14) ≡ RawRefused n
-        → TargetRead t d d (Refused n)
-    by true q e = record { answer = cc; buffer = cc }
-    by false q e =
-        let k : n ≡ 14 = cc in
+        (x : Bool) → raw_right t ≡ x
+        → cond {A = Result Raw Refusal} x (Ok (record { path_len = length (path_of t); slashes = count 47 (path_of t) })) (Err Because.Target) ≡ Err e
+        → TargetRead t d d (Err e)
+    by true q h = record { answer = cc; buffer = cc }
+    by false q h =
+        let k : e ≡ Because.Target = cc in
         record { answer = rw (q, k); buffer = rw q (sym (over-nil d 0)) }
 
 record RawGives (t : List ℕ) (k n : ℕ) : Type 0 where
@@ -179,13 +182,15 @@ record RawGives (t : List ℕ) (k n : ℕ) : Type 0 where
   length_is : k ≡ length (path_of t)
   slashes_are : n ≡ count 47 (path_of t)
 
-raw-gives : (t : List ℕ) (k n : ℕ) → raw_of t ≡ RawPath k n → RawGives t k n
+raw-gives : (t : List ℕ) (k n : ℕ) → raw_of t ≡ Ok (record { path_len = k; slashes = n }) → RawGives t k n
 raw-gives t k n = by (raw_right t) refl
   where
     by :
-        (x : Bool) → raw_right t ≡ x → cond x (RawPath (length (path_of t)) (count 47 (path_of t))) (RawRefused 14) ≡ RawPath k n
+        (x : Bool) → raw_right t ≡ x → cond {A = Result Raw Refusal} x (Ok (record { path_len = length (path_of t); slashes = count 47 (path_of t) })) (Err Because.Target) ≡ Ok (record { path_len = k; slashes = n })
         → RawGives t k n
-    by true q e = record { right = q; length_is = cc; slashes_are = cc }
+    by true q e =
+        let r : ◌≡◌ {A = Raw} (record { path_len = length (path_of t); slashes = count 47 (path_of t) }) (record { path_len = k; slashes = n }) = cc in
+        record { right = q; length_is = ap (λ (x : Raw). x.path_len) (sym r); slashes_are = ap (λ (x : Raw). x.slashes) (sym r) }
     by false q e = record { right = cc; length_is = cc; slashes_are = cc }
 
 -- the bytes of the path are those of the target
@@ -196,7 +201,7 @@ path_bytes t e =
     let short = run-le (other 63) t in
     all_take is_target t (run (other 63) t) short ∙ le-leb (run (other 63) t) (run is_target t) (omega arith)
 
-module _ (t d : List ℕ) (k n : ℕ) (e : raw_of t ≡ RawPath k n) (room : min (length t) 4096 ≤ length d) where
+module _ (t d : List ℕ) (k n : ℕ) (e : raw_of t ≡ Ok (record { path_len = k; slashes = n })) (room : min (length t) 4096 ≤ length d) where
   pub raw-inside : k ≤ length t
   raw-inside = omega (arith, (raw-gives t k n e).length_is, path_length t, run-le (other 63) t)
 
@@ -219,10 +224,10 @@ module _ (t d : List ℕ) (k n : ℕ) (e : raw_of t ≡ RawPath k n) (room : min
       }
 
   -- the path is read
-  module _ (d' : List ℕ) (r : TargetPlace) (w : PathRead (take k t) d d' r) where
+  module _ (d' : List ℕ) (r : Result TargetPlace Refusal) (w : PathRead (take k t) d d' r) where
     path-answer :
         r
-        ≡ cond (decoded_right (count 47 (path_of t)) (decoded (path_of t))) (Path (length (path_of t)) (length (decoded (path_of t)))) (Refused 14)
+        ≡ cond (decoded_right (count 47 (path_of t)) (decoded (path_of t))) (Ok (record { path_len = length (path_of t); decoded_len = length (decoded (path_of t)) })) (Err Because.Target)
     path-answer = rw path-part at w.answer
 
     path-buffer : d' ≡ over d 0 (decoded (path_of t))
@@ -237,6 +242,6 @@ module _ (t d : List ℕ) (k n : ℕ) (e : raw_of t ≡ RawPath k n) (room : min
       where
         by :
             (x : Bool) → decoded_right (count 47 (path_of t)) (decoded (path_of t)) ≡ x
-            → TargetRead t d d' (cond x (Path (length (path_of t)) (length (decoded (path_of t)))) (Refused 14))
+            → TargetRead t d d' (cond x (Ok (record { path_len = length (path_of t); decoded_len = length (decoded (path_of t)) })) (Err Because.Target))
         by true q = record { answer = rw ((raw-gives t k n e).right, q); buffer = whole-buffer }
         by false q = record { answer = rw ((raw-gives t k n e).right, q); buffer = whole-buffer }

@@ -7,11 +7,14 @@ use mathlib.Core.List.{List, [], ◌∷◌}
 use native.Mathlib.Omega.{arith}
 use lib.Dec.{eqb}
 use lib.ListN.{length, take, drop, get_or, length-drop}
+use Rattle.std.proofs.Common.{Ok, Err}
 use borrow.Author.Tests.{eqb-true}
 use Rattle.octets.specs.Outcome.{Outcome, refused, gives, then}
 use Rattle.octets.specs.Kinds.{is_digit, is_letter, is_target}
 use Rattle.octets.specs.Scan.{run, other, all_of, count}
 use Rattle.octets.specs.Lists.{NoNul}
+use Rattle.octets.specs.Refusal.{number_of}
+use Rattle.octets.specs.declared.refusal.Refusal.{Refusal}
 use Rattle.octets.proofs.Outcomes.{Gave, need-gives, then-gives, gives-once}
 use Rattle.octets.proofs.Bools.{and_left, and_right}
 use Rattle.octets.proofs.Lists.{there}
@@ -29,12 +32,11 @@ use Rattle.targets.specs.Target.{
   segments_right,
   decoded_right,
   target_of,
-  Lengths,
   written,
   TargetRead,
 }
 use Rattle.targets.specs.Claims.{Accepted, Told}
-use Rattle.targets.specs.declared.target.TargetPlace.TheVariants.{Path, Refused}
+use Rattle.targets.specs.declared.target.TargetPlace.{TargetPlace}
 use Rattle.targets.proofs.Escapes.{decoded-le}
 use Rattle.targets.proofs.Targets.{raw-says, path_length}
 
@@ -116,24 +118,24 @@ written-path t x e = rw (need-gives (raw_right t) 14 _ x e).0
 
 -- What an answer says.
 
-module _ (t d d' : List ℕ) (k n : ℕ) (room : min (length t) 4096 ≤ length d) (w : TargetRead t d d' (Path k n)) where
-  abbrev lengths : Target → Lengths
-  lengths x = record { path = length (path_of t); decoded = length x.path }
+module _ (t d d' : List ℕ) (k n : ℕ) (room : min (length t) 4096 ≤ length d) (w : TargetRead t d d' (Ok (record { path_len = k; decoded_len = n }))) where
+  abbrev lengths : Target → TargetPlace
+  lengths x = record { path_len = length (path_of t); decoded_len = length x.path }
 
-  gave : Gave (target_of t) (λ x. gives (lengths x)) (record { path = k; decoded = n })
-  gave = then-gives (target_of t) (λ x. gives (lengths x)) (record { path = k; decoded = n }) (sym w.answer)
+  gave : Gave (target_of t) (λ x. gives (lengths x)) (record { path_len = k; decoded_len = n })
+  gave = then-gives (target_of t) (λ x. gives (lengths x)) (record { path_len = k; decoded_len = n }) (sym w.answer)
 
   says : Accepted t gave.it
   says = accepted t gave.it gave.first
 
-  same : lengths gave.it ≡ record { path = k; decoded = n }
+  same : lengths gave.it ≡ record { path_len = k; decoded_len = n }
   same = gives-once _ _ gave.next
 
   path-told : k ≡ length (path_of t)
-  path-told = ap (λ (l : Lengths). l.path) (sym same)
+  path-told = ap (λ (l : TargetPlace). l.path_len) (sym same)
 
   decoded-told : n ≡ length (decoded (path_of t))
-  decoded-told = ap (λ (l : Lengths). l.decoded) (sym same) ∙ ap length says.path_is
+  decoded-told = ap (λ (l : TargetPlace). l.decoded_len) (sym same) ∙ ap length says.path_is
 
   fits : 0 + length (written t) ≤ length d
   fits = omega (arith, written-short t, written-le t)
@@ -157,9 +159,9 @@ module _ (t d d' : List ℕ) (k n : ℕ) (room : min (length t) 4096 ≤ length 
         decoded_inside = omega (arith, decoded-told, decoded-path-le t, says.raw.short, ap length w.buffer ∙ length_over d 0 (written t) fits);
       }
 
-pub refused-told : (t d d' : List ℕ) (n : ℕ) → TargetRead t d d' (Refused n) → refused n ≡ target_of t
-refused-told t d d' n w = by (target_of t) w.answer
+pub refused-told : (t d d' : List ℕ) (e : Refusal) → TargetRead t d d' (Err e) → refused (number_of e) ≡ target_of t
+refused-told t d d' e w = by (target_of t) w.answer
   where
-    by : (o : Outcome Target) → ◌≡◌ {A = Outcome Lengths} (refused n) (then o (λ x. gives (record { path = length (path_of t); decoded = length x.path }))) → refused n ≡ o
-    by (refused m) e = cc
-    by (gives x) e = cc
+    by : (o : Outcome Target) → ◌≡◌ {A = Outcome TargetPlace} (refused (number_of e)) (then o (λ x. gives (record { path_len = length (path_of t); decoded_len = length x.path }))) → refused (number_of e) ≡ o
+    by (refused m) h = cc
+    by (gives x) h = cc

@@ -1,13 +1,14 @@
 -- What is claimed of targets.
 -- Assumes nothing.
-use Rattle.std.specs.Prelude.{ℕ, min, ◌+◌, ◌≤◌, ◌≡◌, true, List, length, take, drop, get_or}
+use Rattle.std.specs.Prelude.{ℕ, min, ◌+◌, ◌≤◌, ◌≡◌, true, List, length, take, drop, get_or, Ok, Err}
 use Rattle.octets.specs.Outcome.{refused, gives}
 use Rattle.octets.specs.Kinds.{is_target}
 use Rattle.octets.specs.Scan.{all_of, count}
 use Rattle.octets.specs.Lists.{NoNul}
+use Rattle.octets.specs.Refusal.{number_of}
+use Rattle.octets.specs.declared.refusal.Refusal.{Refusal}
 use Rattle.targets.specs.Escape.{escapes_right, decoded}
 use Rattle.targets.specs.Target.{Target, path_of, query_of, is_plain, segments_right, target_of, TargetRead}
-use Rattle.targets.specs.declared.target.TargetPlace.TheVariants.{Path, Refused}
 
 -- the target t is right as it stands
 pub record RawSays (t : List ℕ) : Type 0 where
@@ -49,8 +50,8 @@ pub record Told (t d : List ℕ) (k n : ℕ) : Type 0 where
 -- what the lengths of an answer say of the target and of the buffer
 pub record TargetsTold : Type 0 where
   pub accepts :
-      (t before after : List ℕ) (k n : ℕ) → min (length t) 4096 ≤ length before → TargetRead t before after (Path k n) → Told t after k n
-  pub refuses : (t before after : List ℕ) (n : ℕ) → TargetRead t before after (Refused n) → refused n ≡ target_of t
+      (t before after : List ℕ) (k n : ℕ) → min (length t) 4096 ≤ length before → TargetRead t before after (Ok (record { path_len = k; decoded_len = n })) → Told t after k n
+  pub refuses : (t before after : List ℕ) (e : Refusal) → TargetRead t before after (Err e) → refused (number_of e) ≡ target_of t
 
 -- no other number is given: "14 | target refused"
 abbrev pub NumbersHold : Type 0

@@ -1,18 +1,19 @@
 -- A request's target: the rules it obeys, its decoded path and its query.
 -- Assumes nothing.
-use Rattle.std.specs.Prelude.{ℕ, ◌+◌, ◌≤◌, ◌≡◌, Bool, true, cond, not, ◌&&◌, ◌||◌, List, [], ◌∷◌, eqb, leb, length, take, drop, get_or}
+use Rattle.std.specs.Prelude.{ℕ, ◌+◌, ◌≤◌, ◌≡◌, Bool, true, cond, not, ◌&&◌, ◌||◌, List, [], ◌∷◌, eqb, leb, length, take, drop, get_or, Result, Ok, Err}
 use Rattle.octets.specs.Text.{bytes}
-use Rattle.octets.specs.Outcome.{Outcome, refused, gives, then, need}
+use Rattle.octets.specs.Outcome.{Outcome, gives, then, need}
 use Rattle.octets.specs.Kinds.{is_target}
 use Rattle.octets.specs.Scan.{run, other, all_of, count}
 use Rattle.octets.specs.Compare.{same_bytes}
 use Rattle.octets.specs.Parts.{parted}
 use Rattle.octets.specs.Copy.{over}
+use Rattle.octets.specs.Refusal.{outcome}
+use Rattle.octets.specs.declared.refusal.Refusal.{Refusal}
+use Rattle.octets.specs.declared.refusal.Refusal.TheVariants as Because
 use Rattle.targets.specs.Escape.{escapes_right, decoded}
 use Rattle.targets.specs.declared.target.Raw.{Raw}
-use Rattle.targets.specs.declared.target.Raw.TheVariants.{Path as RawPath, Refused as RawRefused}
 use Rattle.targets.specs.declared.target.TargetPlace.{TargetPlace}
-use Rattle.targets.specs.declared.target.TargetPlace.TheVariants.{Path, Refused}
 
 -- "`?` too, the first one ending the path": the bytes before the first 63
 unfoldable pub path_of : List ℕ → List ℕ
@@ -62,36 +63,26 @@ target_of t =
     (need (decoded_right (count 47 (path_of t)) (decoded (path_of t))) 14
     (gives (record { path = decoded (path_of t); query = query_of t })))
 
--- how long the path of a target is, and how long it is decoded
-pub record Lengths : Type 0 where
-  pub path : ℕ
-  pub decoded : ℕ
-
--- what the code's answers say
-abbrev pub target_outcome : TargetPlace → Outcome Lengths
-target_outcome (Path n d) = gives (record { path = n; decoded = d })
-target_outcome (Refused n) = refused n
-
-abbrev pub raw_outcome : Raw → Outcome ℕ
-raw_outcome (RawPath n slashes) = gives n
-raw_outcome (RawRefused n) = refused n
+-- what the code's answers say: how long the path of a target is, and how long it is decoded
+abbrev pub target_outcome : Result TargetPlace Refusal → Outcome TargetPlace
+target_outcome = outcome (λ r. r)
 
 -- .. of the target t
-abbrev pub lengths_of : List ℕ → Outcome Lengths
-lengths_of t = then (target_of t) (λ x. gives (record { path = length (path_of t); decoded = length x.path }))
+abbrev pub lengths_of : List ℕ → Outcome TargetPlace
+lengths_of t = then (target_of t) (λ x. gives (record { path_len = length (path_of t); decoded_len = length x.path }))
 
 -- what is written to the buffer: nothing where the target is refused as it stands, else the decoded path, also where that is refused
 abbrev pub written : List ℕ → List ℕ
 written t = cond (raw_right t) (decoded (path_of t)) []
 
 -- the answer r, and the buffer before and after, are those of the target t
-pub record TargetRead (t before after : List ℕ) (r : TargetPlace) : Type 0 where
+pub record TargetRead (t before after : List ℕ) (r : Result TargetPlace Refusal) : Type 0 where
   pub answer : target_outcome r ≡ lengths_of t
   pub buffer : after ≡ over before 0 (written t)
 
 -- For the step that judges a target as it stands: the length of its path, and how many slashes the path has.
-abbrev pub raw_of : List ℕ → Raw
-raw_of t = cond (raw_right t) (RawPath (length (path_of t)) (count 47 (path_of t))) (RawRefused 14)
+abbrev pub raw_of : List ℕ → Result Raw Refusal
+raw_of t = cond (raw_right t) (Ok (record { path_len = length (path_of t); slashes = count 47 (path_of t) })) (Err Because.Target)
 
 -- For the steps after it: the path p with n slashes is one of a target that is right as it stands.
 pub record PathRight (p : List ℕ) (n : ℕ) : Type 0 where
@@ -101,6 +92,6 @@ pub record PathRight (p : List ℕ) (n : ℕ) : Type 0 where
   pub slashes : n ≡ count 47 p
 
 -- .. and the answer r, and the buffer before and after, are those of the path p.
-pub record PathRead (p before after : List ℕ) (r : TargetPlace) : Type 0 where
-  pub answer : r ≡ cond (decoded_right (count 47 p) (decoded p)) (Path (length p) (length (decoded p))) (Refused 14)
+pub record PathRead (p before after : List ℕ) (r : Result TargetPlace Refusal) : Type 0 where
+  pub answer : r ≡ cond (decoded_right (count 47 p) (decoded p)) (Ok (record { path_len = length p; decoded_len = length (decoded p) })) (Err Because.Target)
   pub buffer : after ≡ over before 0 (decoded p)

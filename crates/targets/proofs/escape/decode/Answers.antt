@@ -1,25 +1,15 @@
-use mathlib.Core.Path.{refl, sym, ap, ◌∙◌}
+use mathlib.Core.Path.{sym, ap, ◌∙◌}
 use Prim.Native.Nat.{◌<◌}
 use lib.ListN.{length, length-set}
 use Rattle.octets.specs.Copy.{over}
 use Rattle.octets.proofs.Copies.{over-nil, first_then}
 use Rattle.targets.proofs.Escapes.{decoded-none}
-use borrow.Author.Rules.{rules}
 use native.Mathlib.Omega.{arith}
 use Rattle.targets.proofs.escape.decode.Goals as goal
 
-pub loop-i-init : goal.loop-i-init
-loop-i-init c = (search rules, search rules, refl, c.requires.1, omega arith, refl)
-
-pub decode_at-step-requires : goal.decode_at-step-requires
-decode_at-step-requires c = (c.loop-i-test.true, c.loop-i.invariant.3)
-
-pub loop-i-smaller : goal.loop-i-smaller
-loop-i-smaller c = omega arith
-
 pub loop-i-preserved : goal.loop-i-preserved
 loop-i-preserved c =
-    let w = c.decode_at-step.ensures in
+    let w = c.decode_at-byte.ensures in
     let room : c.loop-i.n < length c.loop-i.out = omega arith in (
       w.inside,
       omega arith,

@@ -5,17 +5,17 @@ use native.Mathlib.Omega.{arith}
 use Rattle.targets.proofs.escape.decode_at.Goals as goal
 use Rattle.targets.proofs.escape.decode_at.Goals.{After-hex_value-low}
 
-pub returns-then-b-ne37 : goal.returns-then-b-ne37
-returns-then-b-ne37 c =
-    decode-byte c.args.s.now c.args.i c.requires.0 c.requires.1 c.if-b-ne37.true
+pub returns-then-s-i-ne37 : goal.returns-then-s-i-ne37
+returns-then-s-i-ne37 c =
+    decode-byte c.args.s.now c.args.i c.requires.0 c.requires.1 c.if-s-i-ne37.true
 
 pub bounds-s-i-2 : goal.bounds-s-i-2
 bounds-s-i-2 c =
-    omega (arith, escape-inside c.args.s.now c.args.i c.requires.0 c.requires.1 c.if-b-ne37.false)
+    omega (arith, escape-inside c.args.s.now c.args.i c.requires.0 c.requires.1 c.if-s-i-ne37.false)
 
 pub bounds-s-i-3 : goal.bounds-s-i-3
 bounds-s-i-3 c =
-    omega (arith, escape-inside c.args.s.now c.args.i c.requires.0 c.requires.1 c.if-b-ne37.false)
+    omega (arith, escape-inside c.args.s.now c.args.i c.requires.0 c.requires.1 c.if-s-i-ne37.false)
 
 -- both digits are below 16
 digits : (c : After-hex_value-low) → (c.hex_value-high.result < 16) × (c.hex_value-low.result < 16)
@@ -34,4 +34,4 @@ overflow_add-result-2 c = omega (arith, (digits c).0, (digits c).1)
 pub returns : goal.returns
 returns c =
     rw (c.hex_value-high.ensures, c.hex_value-low.ensures)
-    (decode-escape c.args.s.now c.args.i c.requires.0 c.requires.1 c.if-b-ne37.false)
+    (decode-escape c.args.s.now c.args.i c.requires.0 c.requires.1 c.if-s-i-ne37.false)

@@ -1,23 +1,15 @@
-use Rattle.octets.proofs.Scans.{count_next, count_none, count-le}
-use borrow.Author.Rules.{rules}
-use native.Mathlib.Omega.{arith}
+use Rattle.std.proofs.Common.{rules}
+use mathlib.Core.Path.{◌∙◌}
+use lib.Dec.{eqb}
+use Rattle.std.proofs.lemmas.Iterator.{YieldsList-from_slice}
+use Rattle.std.proofs.lemmas.Iterator.Consumers.{YieldsList-from_filter, count_from_yields_List}
+use Rattle.octets.proofs.Tests.{tests}
+use Rattle.targets.proofs.Iterated.{counted}
 use Rattle.targets.proofs.target.slashes.Goals as goal
 
-pub loop-i-init : goal.loop-i-init
-loop-i-init c = (search rules, omega arith)
-
-pub overflow_add-n : goal.overflow_add-n
-overflow_add-n c =
-    let s = c.args.s.now in
-    omega (arith, c.slash-n.ensures, count_next 47 s c.loop-i.i c.loop-i-test.true, count-le 47 s)
-
-pub loop-i-smaller : goal.loop-i-smaller
-loop-i-smaller c = omega arith
-
-pub loop-i-preserved : goal.loop-i-preserved
-loop-i-preserved c =
-    let s = c.args.s.now in
-    omega (arith, c.slash-n.ensures, count_next 47 s c.loop-i.i c.loop-i-test.true)
-
 pub returns : goal.returns
-returns c = omega (arith, count_none 47 c.args.s.now c.loop-i.i c.loop-i-test.false)
+returns c =
+    let s = YieldsList-from_slice c.args.s.now cc in
+    count_from_yields_List c.filter.result _ c.count.ensures.ran
+    (YieldsList-from_filter _ (λ b. eqb b 47) s c.filter.ensures.closure (λ x b q k. search (rules, tests)))
+    ∙ counted 47 c.args.s.now
