@@ -19,7 +19,7 @@ use Rattle.octets.specs.Trim.{kept, trimmed, trimmed_end}
 use Rattle.octets.proofs.Alls.{all_without}
 use Rattle.octets.proofs.Scans.{run-within, all_take}
 use Rattle.octets.proofs.Trims.{kept-le}
-use Rattle.http_head.specs.Fields.{Field, is_field_name, field_with, field_of, ahead, each_field, fields_in, fields_of, name_length, value_start, value_length, numbers_of}
+use Rattle.http_head.specs.Fields.{Field, is_field_name, field_with, field_of, ahead, each_field, fields_in, fields_of, name_length, value_start, value_length, spans_of}
 use Rattle.http_head.specs.Claims.{Clean, FieldStands}
 
 -- the first colon stands at n
@@ -66,7 +66,7 @@ module _ (rule : ℕ → Bool) (line : List ℕ) (n : ℕ) (colon : n ≡ 0 + ru
 
       pub whole :
           (n ≡ 0 → ⊥) → n ≤ 0 + run rule (drop 0 line) → v + k ≤ v + run is_value (drop v line)
-          → numbers_of rule line ≡ Some (record { name = n; value = v; len = k })
+          → spans_of rule line ≡ Some (record { name = record { start = 0; len = n }; value = record { start = v; len = k } })
       whole z a b =
           let e : name_length line ≡ n = omega arith in
           let y : length (take k (drop v line)) ≡ k = length-take-le k (drop v line) (omega (arith, kept-le (drop v line))) in

@@ -2,40 +2,35 @@
 -- Assumes nothing.
 use mathlib.Core.Path.{◌≡◌, refl, sym, ap, ◌∙◌}
 use mathlib.Core.Bool.{Bool, true, false, cond}
-use mathlib.Core.List.{List, [], ◌∷◌, ◌++◌}
-use Rattle.std.proofs.Common.{Option, None, Some}
-use Prim.Native.Nat.{ℕ, zero, suc, ◌+◌, ◌-◌, ◌*◌, ◌≤◌, ◌<◌}
-use native.Mathlib.Nat.{add-zero, zero-add}
+use mathlib.Core.List.{List, [], ◌∷◌}
+use Rattle.std.proofs.Common.{Option, None, Some, Ok, Err}
+use Prim.Native.Nat.{ℕ, zero, suc, ◌+◌, ◌-◌, ◌≤◌, ◌<◌}
 use native.Mathlib.Omega.{arith}
+use native.Mathlib.Numerals.{add-one}
 use lib.Dec.{leb, ltb}
-use lib.ListN.{length, take, drop, get_or}
-use lib.Seq.{get_or-drop, drop-drop, length-take-le}
+use lib.ListN.{length, take, drop, get_or, length-append, drop_of_length-le}
+use lib.Seq.{drop-drop, drop-cons, length-take-le, take_at}
 use borrow.Author.Tests.{leb-true, ltb-true, ltb-false}
 use Rattle.octets.specs.Outcome.{Outcome, refused, gives, then}
-use Rattle.octets.specs.Copy.{over}
+use Rattle.octets.specs.Refusal.{number_of}
+use Rattle.octets.specs.declared.refusal.Refusal.{Refusal}
 use Rattle.octets.proofs.Lists.{part-take}
 use Rattle.octets.proofs.Outcomes.{given-gives, then-gives, gives-once}
 use Rattle.http_head.specs.Lines.{ends_line, lines_of, line_run}
-use Rattle.http_head.specs.Fields.{Field, field_of, ahead, each_field, fields_in, fields_of, name_length, value_start, value_length, places_from, places_of, Stored, field_at, fields_at, Inside}
+use Rattle.http_head.specs.Fields.{Field, field_of, ahead, each_field, fields_in, fields_of, name_length, value_start, value_length, spans_at, places_from, places_of, Stored, field_at, fields_at, nowhere, Inside, AllInside}
 use Rattle.http_head.specs.Claims.{FieldStands, FieldsStand}
-use Rattle.http_head.specs.declared.fields.Fields.TheVariants.{Count, Refused}
+use Rattle.http_head.specs.declared.fields.Field.{Field as Spans}
 use Rattle.http_head.proofs.LineCuts.{line-le, line-ends, line-within, ends-inside, first-line, other-lines, no_lines, next-line, next-ends}
 use Rattle.http_head.proofs.FieldLines.{field-stands}
 
--- the next of n stored fields, the one with number k
+-- the next stored field, the one with number k
 pub fields-next :
-    (head ps : List ℕ) (n k : ℕ) → k < n
-    → fields_at head ps k (n - k) ≡ field_at head ps k ∷ fields_at head ps (k + 1) (n - (k + 1))
-unfolding fields_at
-fields-next head ps n k h =
-    let e : n - k ≡ suc (n - (k + 1)) = omega arith in
-    ap (fields_at head ps k) e
+    (head : List ℕ) (ps : List Spans) (k : ℕ) → k < length ps
+    → fields_at head (drop k ps) ≡ field_at head (get_or ps k nowhere) ∷ fields_at head (drop (k + 1) ps)
+fields-next head ps k h = rw (add-one, drop-cons ps k nowhere h)
 
-pub fields-end : (head ps : List ℕ) (n k : ℕ) → n ≤ k → fields_at head ps k (n - k) ≡ []
-unfolding fields_at
-fields-end head ps n k h =
-    let e : n - k ≡ 0 = omega arith in
-    ap (fields_at head ps k) e
+pub fields-end : (head : List ℕ) (ps : List Spans) (k : ℕ) → length ps ≤ k → fields_at head (drop k ps) ≡ []
+fields-end head ps k h = ap (fields_at head) (drop_of_length-le ps h)
 
 -- LINES THAT STAND IN A HEAD, each behind the CR LF of the one before; the first starts at a place
 
@@ -70,88 +65,69 @@ lines-in (suc fuel) s i h e = by (ltb i (length s)) refl (lines-in fuel s)
 head-lines : (head : List ℕ) → LinesIn head (line_run head + 2) (lines_of head).others
 head-lines head = rw (other-lines head) (lines-in (suc (length head)) head (line_run head) (omega arith) (line-ends head))
 
--- THE FIELDS AT THEIR PLACES, where the four numbers of each line are stored
+-- THE FIELDS AT THEIR PLACES
 
-record FieldsThere (head ps : List ℕ) (k n : ℕ) (fs : List Field) : Type 0 where
-  fields : fields_at head ps k n ≡ fs
-  inside : (j : ℕ) → j < n → Inside head ps (k + j)
+record FieldsThere (head : List ℕ) (ps : List Spans) (fs : List Field) : Type 0 where
+  fields : fields_at head ps ≡ fs
+  inside : AllInside head ps
 
-module _ (rule : ℕ → Bool) (head ps tail : List ℕ) where
-  module _
-      (at k : ℕ) (l : List ℕ) (more : List ℕ) (f : Field) (b : at + length l ≤ length head) (is : l ≡ take (length l) (drop at head))
-      (st : FieldStands l f) (e : drop (4 * k) ps ≡ at ∷ (name_length l ∷ ((at + value_start l) ∷ (value_length l ∷ more)))) where
-    number : (i x : ℕ) → get_or (drop (4 * k) ps) i 0 ≡ x → get_or ps (4 * k + i) 0 ≡ x
-    number i x q = sym (get_or-drop (4 * k) ps i 0) ∙ q
+-- the field of a line that starts at a place
+module _
+    (head : List ℕ) (at : ℕ) (l : List ℕ) (f : Field) (b : at + length l ≤ length head) (is : l ≡ take (length l) (drop at head))
+    (st : FieldStands l f) where
+  part_of : (i n : ℕ) → i + n ≤ length l → take n (drop i l) ≡ take n (drop (at + i) head)
+  part_of i n h =
+      let m : i + n ≤ length (take (length l) (drop at head)) = rw (← is) h in
+      ap (λ (t : List ℕ). take n (drop i t)) is
+      ∙ part-take (drop at head) (length l) i n m
+      ∙ ap (take n) (drop-drop i at head)
 
-    n₀ : get_or ps (4 * k) 0 ≡ at
-    n₀ = let z : 4 * k ≡ 4 * k + 0 = omega arith in ap (λ (j : ℕ). get_or ps j 0) z ∙ number 0 at (ap (λ (t : List ℕ). get_or t 0 0) e)
+  name-there : take (name_length l) (drop at head) ≡ f.name
+  name-there =
+      let z : at + 0 ≡ at = omega arith in
+      sym (st.name ∙ part_of 0 (name_length l) (omega (arith, st.colon_inside)) ∙ ap (λ (j : ℕ). take (name_length l) (drop j head)) z)
 
-    n₁ : get_or ps (4 * k + 1) 0 ≡ name_length l
-    n₁ = number 1 (name_length l) (ap (λ (t : List ℕ). get_or t 1 0) e)
+  value_there : take (value_length l) (drop (at + value_start l) head) ≡ f.value
+  value_there = sym (st.value ∙ part_of (value_start l) (value_length l) st.value_inside)
 
-    n₂ : get_or ps (4 * k + 2) 0 ≡ at + value_start l
-    n₂ = number 2 (at + value_start l) (ap (λ (t : List ℕ). get_or t 2 0) e)
+  field-there : field_at head (spans_at at l) ≡ f
+  field-there = rw (name-there, value_there)
 
-    n₃ : get_or ps (4 * k + 3) 0 ≡ value_length l
-    n₃ = number 3 (value_length l) (ap (λ (t : List ℕ). get_or t 3 0) e)
+  inside-there : Inside head (spans_at at l)
+  inside-there = record { name = omega (arith, st.colon_inside); value = omega (arith, st.value_inside) }
 
-    part_of : (i n : ℕ) → i + n ≤ length l → take n (drop i l) ≡ take n (drop (at + i) head)
-    part_of i n h =
-        let m : i + n ≤ length (take (length l) (drop at head)) = rw (← is) h in
-        ap (λ (t : List ℕ). take n (drop i t)) is
-        ∙ part-take (drop at head) (length l) i n m
-        ∙ ap (take n) (drop-drop i at head)
+inside-next : (head : List ℕ) (p : Spans) (ps : List Spans) → Inside head p → AllInside head ps → AllInside head (p ∷ ps)
+inside-next head p ps a more zero h = a
+inside-next head p ps a more (suc j) h = more j (omega arith)
 
-    name-there : take (name_length l) (drop at head) ≡ f.name
-    name-there =
-        let z : at + 0 ≡ at = omega arith in
-        sym (st.name ∙ part_of 0 (name_length l) (omega (arith, st.colon_inside)) ∙ ap (λ (j : ℕ). take (name_length l) (drop j head)) z)
+there :
+    (rule : ℕ → Bool) (head : List ℕ) (at : ℕ) (ls : List (List ℕ)) → LinesIn head at ls → (fs : List Field) → each_field rule ls ≡ Some fs
+    → FieldsThere head (places_from at ls) fs
+unfolding each_field places_from
+there rule head at [] no_line fs q = record { fields = cc; inside = λ j h. absurd (omega arith) }
+there rule head at (l ∷ ls) (one_line b is rest) fs q =
+    by (field_of rule l) (each_field rule ls) refl refl (there rule head (at + length l + 2) ls rest) q
+  where
+    by :
+        (o : Option Field) (p : Option (List Field)) → field_of rule l ≡ o → each_field rule ls ≡ p
+        → ((gs : List Field) → each_field rule ls ≡ Some gs → FieldsThere head (places_from (at + length l + 2) ls) gs) → ahead o p ≡ Some fs
+        → FieldsThere head (spans_at at l ∷ places_from (at + length l + 2) ls) fs
+    by None p x y ih r = absurd (let z : ◌≡◌ {A = ℕ} 0 1 = cc in omega arith)
+    by (Some f) None x y ih r = absurd (let z : ◌≡◌ {A = ℕ} 0 1 = cc in omega arith)
+    by (Some f) (Some gs) x y ih r =
+        let st = field-stands rule l f x in
+        let z : fs ≡ f ∷ gs = cc in
+        let g = ih gs y in
+        rw z
+        (record {
+          fields = rw (field-there head at l f b is st, g.fields);
+          inside = inside-next head (spans_at at l) (places_from (at + length l + 2) ls) (inside-there head at l f b is st) g.inside;
+        })
 
-    value_there : take (value_length l) (drop (at + value_start l) head) ≡ f.value
-    value_there = sym (st.value ∙ part_of (value_start l) (value_length l) st.value_inside)
-
-    field-there : field_at head ps k ≡ f
-    field-there = rw (n₀, n₁, n₂, n₃, name-there, value_there)
-
-    inside-there : Inside head ps k
-    inside-there =
-        record {
-          name = rw (n₀, n₁) (omega (arith, st.colon_inside));
-          value = rw (n₂, n₃) (omega (arith, st.value_inside));
-        }
-
-  inside-next : (k n : ℕ) → Inside head ps k → ((j : ℕ) → j < n → Inside head ps (k + 1 + j)) → (j : ℕ) → j < suc n → Inside head ps (k + j)
-  inside-next k n a more zero h = rw (add-zero k) a
-  inside-next k n a more (suc j) h =
-      let z : k + suc j ≡ k + 1 + j = omega arith in
-      rw z (more j (omega arith))
-
-  there :
-      (at : ℕ) (ls : List (List ℕ)) → LinesIn head at ls → (k : ℕ) → drop (4 * k) ps ≡ places_from at ls ++ tail
-      → (fs : List Field) → each_field rule ls ≡ Some fs → FieldsThere head ps k (length ls) fs
-  unfolding each_field fields_at places_from
-  there at [] no_line k e fs q = record { fields = cc; inside = λ j h. absurd (omega arith) }
-  there at (l ∷ ls) (one_line b is rest) k e fs q =
-      let z : 4 * k + 4 ≡ 4 * (k + 1) = omega arith in
-      let d : drop (4 * (k + 1)) ps ≡ places_from (at + length l + 2) ls ++ tail =
-      ap (λ (j : ℕ). drop j ps) (sym z) ∙ sym (drop-drop 4 (4 * k) ps) ∙ ap (drop 4) e in
-      by (field_of rule l) (each_field rule ls) refl refl (there (at + length l + 2) ls rest (k + 1) d) q
-    where
-      by :
-          (o : Option Field) (p : Option (List Field)) → field_of rule l ≡ o → each_field rule ls ≡ p
-          → ((gs : List Field) → each_field rule ls ≡ Some gs → FieldsThere head ps (k + 1) (length ls) gs) → ahead o p ≡ Some fs
-          → FieldsThere head ps k (suc (length ls)) fs
-      by None p x y ih r = absurd (let z : ◌≡◌ {A = ℕ} 0 1 = cc in omega arith)
-      by (Some f) None x y ih r = absurd (let z : ◌≡◌ {A = ℕ} 0 1 = cc in omega arith)
-      by (Some f) (Some gs) x y ih r =
-          let st = field-stands rule l f x in
-          let z : fs ≡ f ∷ gs = cc in
-          let g = ih gs y in
-          rw z
-          (record {
-            fields = rw (field-there at k l (places_from (at + length l + 2) ls ++ tail) f b is st e, g.fields);
-            inside = inside-next k (length ls) (inside-there at k l (places_from (at + length l + 2) ls ++ tail) f b is st e) g.inside;
-          })
+places-length : (at : ℕ) (ls : List (List ℕ)) → length (places_from at ls) ≡ length ls
+unfolding places_from
+places-length at [] = refl
+places-length at (l ∷ ls) = ap suc (places-length (at + length l + 2) ls)
 
 -- FIELDS ARE AT MOST 64
 
@@ -185,26 +161,28 @@ fields_few rule lines fs e =
 
 -- WHAT AN ANSWER SAYS
 
-module _ (rule : ℕ → Bool) (head before after : List ℕ) where
-  pub stored-stand : (n : ℕ) → Stored rule head before after (Count n) → FieldsStand rule head after n
-  unfolding over
+module _ (rule : ℕ → Bool) (head : List ℕ) (before after : List Spans) where
+  pub stored-stand : (n : ℕ) → Stored rule head before after (Ok n) → FieldsStand rule head after n
   stored-stand n s =
       let lines = (lines_of head).others in
       let g = then-gives (fields_of rule lines) (λ fs. gives (length fs)) n (sym s.answer) in
       let m = each_of rule lines g.it g.first in
       let c : length g.it ≡ n = gives-once _ _ g.next in
       let l : length lines ≡ n = sym (each-length rule lines g.it m.each) ∙ c in
-      let t = there rule head after (drop (0 + length (places_of head)) before) (line_run head + 2) lines (head-lines head) 0 s.numbers g.it m.each in
+      let t = there rule head (line_run head + 2) lines (head-lines head) g.it m.each in
+      let p : length (places_of head) ≡ n = places-length (line_run head + 2) lines ∙ l in
+      let q : take n after ≡ places_of head = ap (take n) s.places ∙ take_at (places_of head) (drop (length (places_of head)) before) n p in
       record {
-        answer = ap gives (ap (fields_at head after 0) (sym l) ∙ t.fields) ∙ sym g.first;
-        inside = λ j h. rw (zero-add j) at (t.inside j (omega arith));
+        answer = ap gives (ap (fields_at head) q ∙ t.fields) ∙ sym g.first;
+        inside = rw q t.inside;
+        room = omega (arith, ap length s.places, length-append (places_of head) (drop (length (places_of head)) before), p);
         count = sym l;
         few = omega (arith, m.few);
       }
 
-  pub stored_refused : (k : ℕ) → Stored rule head before after (Refused k) → refused k ≡ fields_of rule (lines_of head).others
-  stored_refused k s = by (fields_of rule (lines_of head).others) s.answer
+  pub stored_refused : (e : Refusal) → Stored rule head before after (Err e) → refused (number_of e) ≡ fields_of rule (lines_of head).others
+  stored_refused e s = by (fields_of rule (lines_of head).others) s.answer
     where
-      by : (o : Outcome (List Field)) → ◌≡◌ {A = Outcome ℕ} (refused k) (then o (λ fs. gives (length fs))) → refused k ≡ o
-      by (refused m) e = cc
-      by (gives fs) e = cc
+      by : (o : Outcome (List Field)) → ◌≡◌ {A = Outcome ℕ} (refused (number_of e)) (then o (λ fs. gives (length fs))) → refused (number_of e) ≡ o
+      by (refused m) x = cc
+      by (gives fs) x = cc

@@ -18,7 +18,6 @@ use Rattle.octets.proofs.Scans.{run-within, all_take}
 use Rattle.octets.proofs.Trims.{kept-take}
 use Rattle.http_head.specs.Lines.{ends_line, lines_of, line_run}
 use Rattle.http_head.specs.Fields.{Field, is_field_name, field_with, field_of, name_length, value_start, value_length, place_if, place_of}
-use Rattle.http_head.specs.declared.fields.FieldPlace.TheVariants.{At, Malformed}
 use Rattle.http_head.proofs.FieldLines.{no-colon, bad-name}
 use Rattle.http_head.proofs.LineCuts.{passes-other, ends_at, line-more, line-le, run-line, line_on, first-line}
 
@@ -232,10 +231,10 @@ module _ (head : List ℕ) (start c : ℕ) (l : start ≤ length head) (name : c
   byte : get_or (drop start head) (run is_name (drop start head)) 0 ≡ get_or head c 0
   byte = get_or-drop start head (run is_name (drop start head)) 0 ∙ ap (λ (k : ℕ). get_or head k 0) (sym name)
 
-  malformed : field_of is_name (lines_of (drop start head)).first ≡ None → Malformed ≡ place_of is_name head start
+  malformed : field_of is_name (lines_of (drop start head)).first ≡ None → None ≡ place_of is_name head start
   malformed e = sym (ap (λ (o : Option Field). place_if o start (lines_of (drop start head)).first) e)
 
-  pub colonless : (c < length head → get_or head c 0 ≡ 58 → ⊥) → Malformed ≡ place_of is_name head start
+  pub colonless : (c < length head → get_or head c 0 ≡ 58 → ⊥) → None ≡ place_of is_name head start
   colonless h =
       malformed
       (ap (field_of is_name) (first-line (drop start head))
@@ -246,7 +245,7 @@ module _ (head : List ℕ) (start c : ℕ) (l : start ≤ length head) (name : c
     inside : run is_name (drop start head) < length (drop start head)
     inside = omega (arith, length-drop start head)
 
-    pub nameless : c ≡ start → Malformed ≡ place_of is_name head start
+    pub nameless : c ≡ start → None ≡ place_of is_name head start
     nameless z =
         malformed
         (ap (field_of is_name) (first-line (drop start head))
@@ -278,7 +277,7 @@ module _ (head : List ℕ) (start c : ℕ) (l : start ≤ length head) (name : c
       unfolding is_value
       value_line = omega (arith, line_on is_value refl head (c + 1) e value)
 
-      pub valueless : eqb (line_run (drop e head)) 0 ≡ false → Malformed ≡ place_of is_name head start
+      pub valueless : eqb (line_run (drop e head)) 0 ≡ false → None ≡ place_of is_name head start
       valueless h =
           let y : line_run (drop e head) ≡ 0 → ⊥ = eqb-false (line_run (drop e head)) 0 h in
           malformed (field_is ∙ rw (lt-leb (line_run after) (run is_value after) (omega (arith, value_line))))
@@ -329,7 +328,9 @@ module _ (head : List ℕ) (start c : ℕ) (l : start ≤ length head) (name : c
           end-told : start + length (line (drop start head)) ≡ e
           end-told = omega (arith, line-length (drop start head), line-is, whole)
 
-          pub stands : At (c - start) v k e ≡ place_of is_name head start
+          pub stands :
+              Some (record { name = record { start = start; len = c - start }; value = record { start = v; len = k } }, e)
+              ≡ place_of is_name head start
           stands =
               sym
               (ap (λ (l : List ℕ). place_if (field_of is_name l) start l) (first-line (drop start head))

@@ -5,6 +5,8 @@ use mathlib.Core.Bool.{Bool, true, false, ◌||◌, and-false, false≢true}
 use mathlib.Core.List.{List, [], ◌∷◌, ◌++◌, append_assoc}
 use Prim.Native.Nat.{ℕ, suc, ◌+◌, ◌-◌, ◌≤◌, ◌<◌}
 use native.Mathlib.Omega.{arith}
+use Rattle.std.proofs.Common.{Ok, Err}
+use lib.Dec.{eqb}
 use lib.ListN.{length, take, drop, get_or, length-append, length-take, length-drop}
 use lib.Seq.{drop-drop, take_at, drop_at, length-take-le}
 use borrow.Author.Tests.{eq-eqb, ne_eqb, le-leb, lt-leb}
@@ -19,11 +21,14 @@ use Rattle.octets.proofs.Bools.{and_right}
 use Rattle.octets.proofs.Alls.{all_without, no_nul}
 use Rattle.octets.proofs.Compares.{same_true}
 use Rattle.octets.proofs.Outcomes.{Gave, need-gives, then-gives, gives-once}
-use Rattle.octets.proofs.Scans.{all-run}
+use Rattle.octets.proofs.Scans.{all-same-run}
 use Rattle.octets.proofs.Parting.{joined_by, parts-of, part-ended, part-found, part_none}
-use Rattle.http_head.specs.RequestLine.{FirstLine, is_method, is_version, is_served, version_of, version_text, three_parts, request_line_of, LineParts, line_places, line_places_of, line_outcome}
+use Rattle.http_head.specs.RequestLine.{FirstLine, is_method, is_version, is_served, version_of, version_text, three_parts, request_line_of, LineParts, line_places, line_places_of, line_told, line_outcome}
+use Rattle.http_head.specs.Fields.{part_at}
 use Rattle.http_head.specs.Claims.{Reads, LineStands}
-use Rattle.http_head.specs.declared.request_line.RequestLine.TheVariants.{Line, Refused as LineRefused}
+use Rattle.octets.specs.Refusal.{number_of}
+use Rattle.octets.specs.declared.refusal.Refusal.{Refusal}
+use Rattle.http_head.specs.declared.request_line.RequestLine.{RequestLine}
 
 -- the method
 module _ (m : List ℕ) where
@@ -35,14 +40,11 @@ module _ (m : List ℕ) where
   unfolding is_method
   long-method h = simp (lt-leb (length m) 32 h, and-false)
 
-  pub other-method : 0 + run is_token (drop 0 m) < length m → is_method m ≡ false
+  pub token-method : (length m ≡ 0 → ⊥) → length m ≤ 32 → eqb (0 + run is_token (drop 0 m)) (length m) ≡ is_method m
   unfolding is_method
-  other-method h = simp (all-run is_token m, lt-leb (length m) (run is_token m) (omega arith), and-false)
-
-  pub token-method : (length m ≡ 0 → ⊥) → length m ≤ 32 → length m ≤ 0 + run is_token (drop 0 m) → is_method m ≡ true
-  unfolding is_method
-  token-method z l h =
-      simp (all-run is_token m, le-leb 1 (length m) (omega arith), le-leb (length m) 32 l, le-leb (length m) (run is_token m) (omega arith))
+  token-method z l =
+      let e : 0 + run is_token m ≡ run is_token m = omega arith in
+      sym (rw (all-same-run is_token m, le-leb 1 (length m) (omega arith), le-leb (length m) 32 l, e))
 
 -- the version's shape
 module _ (v : List ℕ) where
@@ -154,7 +156,8 @@ module _ (line : List ℕ) (m : ℕ) (method : m ≡ 0 + run (other 32) (drop 0 
 
         pub whole :
             is_method (take m line) ≡ true → (d : ℕ) → version_of (drop (t + 1) line) ≡ gives (version_text d)
-            → line_places_of line ≡ gives (record { method_length = m; target_start = m + 1; target_length = t - (m + 1); version = version_text d })
+            → line_places_of line
+            ≡ gives (record { method_length = m; target = record { start = m + 1; len = t - (m + 1) }; version = version_text d })
         whole q d r =
             let x : length (take m line) ≡ m = length-take-le m line (omega arith) in
             let y : length (take (t - (m + 1)) (drop (m + 1) line)) ≡ t - (m + 1) = simp (length-take, length-drop) (omega arith) in
@@ -249,63 +252,61 @@ served-minor d = by (same_bytes (version_text d) (bytes "HTTP/1.0")) (same_bytes
         omega arith
     by false false p q e = absurd (false≢true e)
 
-module _ (line : List ℕ) (m t k d : ℕ) (says : line_outcome (Line m t k d) ≡ line_places_of line) where
-  abbrev told : LineParts
-  told = record { method_length = m; target_start = t; target_length = k; version = version_text d }
-
-  gave : Gave (request_line_of line) (λ f. gives (line_places f)) told
-  gave = then-gives (request_line_of line) (λ f. gives (line_places f)) told (sym says)
+module _ (line : List ℕ) (l : RequestLine) (says : line_outcome (Ok l) ≡ line_places_of line) where
+  gave : Gave (request_line_of line) (λ f. gives (line_places f)) (line_told l)
+  gave = then-gives (request_line_of line) (λ f. gives (line_places f)) (line_told l) (sym says)
 
   abbrev f : FirstLine
   f = gave.it
 
-  same : line_places f ≡ told
+  same : line_places f ≡ line_told l
   same = gives-once _ _ gave.next
 
   made : Reads line f
   made = line_read line f gave.first
 
-  method-is : length f.method ≡ m
+  method-is : length f.method ≡ l.method_len
   method-is = ap (λ (p : LineParts). p.method_length) same
 
-  start_is : length f.method + 1 ≡ t
-  start_is = ap (λ (p : LineParts). p.target_start) same
+  start_is : length f.method + 1 ≡ l.target.start
+  start_is = ap (λ (p : LineParts). p.target.start) same
 
-  target_is : length f.target ≡ k
-  target_is = ap (λ (p : LineParts). p.target_length) same
+  target_is : length f.target ≡ l.target.len
+  target_is = ap (λ (p : LineParts). p.target.len) same
 
-  version-is : f.version ≡ version_text d
+  version-is : f.version ≡ version_text l.minor
   version-is = ap (λ (p : LineParts). p.version) same
 
   abbrev behind : List ℕ
   behind = f.target ++ (32 ∷ f.version)
 
-  method-there : take m line ≡ f.method
-  method-there = ap (take m) made.parts ∙ take_at f.method (32 ∷ behind) m method-is
+  method-there : take l.method_len line ≡ f.method
+  method-there = ap (take l.method_len) made.parts ∙ take_at f.method (32 ∷ behind) l.method_len method-is
 
-  behind-there : drop t line ≡ behind
+  behind-there : drop l.target.start line ≡ behind
   behind-there =
       let e : f.method ++ (32 ∷ behind) ≡ (f.method ++ (32 ∷ [])) ++ behind = sym (append_assoc f.method (32 ∷ []) behind) in
-      ap (drop t) (made.parts ∙ e) ∙ drop_at (f.method ++ (32 ∷ [])) behind t (length-append f.method (32 ∷ []) ∙ start_is)
+      ap (drop l.target.start) (made.parts ∙ e)
+      ∙ drop_at (f.method ++ (32 ∷ [])) behind l.target.start (length-append f.method (32 ∷ []) ∙ start_is)
 
-  target-there : take k (drop t line) ≡ f.target
-  target-there = ap (take k) behind-there ∙ take_at f.target (32 ∷ f.version) k target_is
+  target-there : part_at line l.target ≡ f.target
+  target-there = ap (take l.target.len) behind-there ∙ take_at f.target (32 ∷ f.version) l.target.len target_is
 
   long : length line ≡ length f.method + suc (length f.target + suc (length f.version))
   long = ap length made.parts ∙ simp length-append
 
-  pub line-stands : LineStands line m t k d
+  pub line-stands : LineStands line l
   line-stands =
       record {
         answer = sym (gave.first ∙ rw (method-there, target-there, ← version-is));
         method_inside = omega (arith, long, method-is);
         target_inside = omega (arith, long, start_is, target_is);
-        minor_is = served-minor d (rw version-is at made.served);
+        minor_is = served-minor l.minor (rw version-is at made.served);
       }
 
-pub line_refused : (line : List ℕ) (n : ℕ) → line_outcome (LineRefused n) ≡ line_places_of line → refused n ≡ request_line_of line
-line_refused line n = by (request_line_of line)
+pub line_refused : (line : List ℕ) (e : Refusal) → line_outcome (Err e) ≡ line_places_of line → refused (number_of e) ≡ request_line_of line
+line_refused line e = by (request_line_of line)
   where
-    by : (o : Outcome FirstLine) → ◌≡◌ {A = Outcome LineParts} (refused n) (then o (λ f. gives (line_places f))) → refused n ≡ o
+    by : (o : Outcome FirstLine) → ◌≡◌ {A = Outcome LineParts} (refused (number_of e)) (then o (λ f. gives (line_places f))) → refused (number_of e) ≡ o
     by (refused m) e = cc
     by (gives f) e = cc

@@ -15,7 +15,8 @@ use Rattle.octets.specs.Parts.{Parts, parted}
 use Rattle.http_head.specs.Head.{end_from, head_of}
 use Rattle.http_head.specs.Lines.{lines_from, lines_of, line_run}
 use Rattle.http_head.specs.RequestLine.{FirstLine, is_method, is_version, version_of, request_line_of, line_places_of}
-use Rattle.http_head.specs.Fields.{Field, field_of, each_field, fields_of, FieldNumbers, numbers_of, places_from, places_of}
+use Rattle.http_head.specs.Fields.{Field, field_of, each_field, fields_of, spans_of, places_from, places_of}
+use Rattle.http_head.specs.declared.fields.Field.{Field as Spans}
 
 abbrev crlf : List ℕ
 crlf = 13 ∷ 10 ∷ []
@@ -121,25 +122,27 @@ underscore-allowed = refl
 
 -- WHERE THEY STAND
 
-pub line-places : line_places_of (bytes "a a HTTP/1.0") ≡ gives (record { method_length = 1; target_start = 2; target_length = 1; version = bytes "HTTP/1.0" })
+pub line-places : line_places_of (bytes "a a HTTP/1.0") ≡ gives (record { method_length = 1; target = record { start = 2; len = 1 }; version = bytes "HTTP/1.0" })
 unfolding request_line_of is_method is_version version_of parted same_bytes all_of is_token is_digit is_letter
 line-places = refl
 
-unfoldable pub field_numbers : List (Case (List ℕ) (Option FieldNumbers))
-field_numbers =
-    record { input = bytes "a:a"; answer = Some (record { name = 1; value = 2; len = 1 }) } ∷
-    record { input = bytes "A: b c "; answer = Some (record { name = 1; value = 3; len = 3 }) } ∷
-    record { input = bytes "A:"; answer = Some (record { name = 1; value = 2; len = 0 }) } ∷
-    record { input = bytes "A:  "; answer = Some (record { name = 1; value = 4; len = 0 }) } ∷
+-- a name's place and a value's
+abbrev pub at : ℕ → ℕ → ℕ → ℕ → Spans
+at n k v l = record { name = record { start = n; len = k }; value = record { start = v; len = l } }
+
+unfoldable pub field_places : List (Case (List ℕ) (Option Spans))
+field_places =
+    record { input = bytes "a:a"; answer = Some (at 0 1 2 1) } ∷
+    record { input = bytes "A: b c "; answer = Some (at 0 1 3 3) } ∷
+    record { input = bytes "A:"; answer = Some (at 0 1 2 0) } ∷
+    record { input = bytes "A:  "; answer = Some (at 0 1 4 0) } ∷
     record { input = bytes "A"; answer = None } ∷
     []
 
-pub field-numbers-right : map (λ c. numbers_of is_name c.input) field_numbers ≡ map (λ c. c.answer) field_numbers
-unfolding field_numbers field_of run all_of kept is_name is_token is_digit is_letter is_blank is_value
-field-numbers-right = refl
+pub field-places-right : map (λ c. spans_of is_name c.input) field_places ≡ map (λ c. c.answer) field_places
+unfolding field_places field_of run all_of kept is_name is_token is_digit is_letter is_blank is_value
+field-places-right = refl
 
-pub places-right :
-    places_of (bytes "GET / HTTP/1.1" ++ crlf ++ bytes "A: b" ++ crlf ++ bytes "Cd:")
-    ≡ 16 ∷ 1 ∷ 19 ∷ 1 ∷ 22 ∷ 2 ∷ 25 ∷ 0 ∷ []
+pub places-right : places_of (bytes "GET / HTTP/1.1" ++ crlf ++ bytes "A: b" ++ crlf ++ bytes "Cd:") ≡ at 16 1 19 1 ∷ at 22 2 25 0 ∷ []
 unfolding places_from lines_from line_run run kept is_blank
 places-right = refl

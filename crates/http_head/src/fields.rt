@@ -79,7 +79,9 @@ pub fn field_lines(head: &[u8], from: usize, places: &mut [Field]) -> Result<usi
         if n == 64 {
             return Err(Refusal::FieldLine);
         }
-        let (field, next) = field_at(head, end + 2).ok_or(Refusal::FieldLine)?;
+        let Some((field, next)) = field_at(head, end + 2) else {
+            return Err(Refusal::FieldLine);
+        };
         places[n] = field;
         n += 1;
         end = next;

@@ -5,7 +5,7 @@ ghost use Rattle.http_head.specs.RequestLine.{is_method, is_version, version_out
 
 use bulk::compare::eight_at;
 use octets::compare::same;
-use octets::kinds::{Kind, is_kind};
+use octets::kinds::Kind;
 use octets::refusal::Refusal;
 use octets::scan::{find, run_end};
 use octets::span::Span;
@@ -14,18 +14,20 @@ use octets::span::Span;
 fn is_method(s: &[u8]) -> bool
     ensures { result ≡ is_method s.now }
 {
-    s.len() != 0 && s.len() <= 32 && run_end(Kind::Token, s, 0) == s.len()
+    if s.len() == 0 || 32 < s.len() {
+        return false;
+    }
+    run_end(Kind::Token, s, 0) == s.len()
 }
 
 // Whether s is `HTTP/`, digit, `.`, digit.
 fn is_version(s: &[u8]) -> bool
     ensures { result ≡ is_version s.now }
 {
-    s.len() == 8
-        && same(&s[..5], b"HTTP/")
-        && s[5].is_ascii_digit()
-        && s[6] == b'.'
-        && s[7].is_ascii_digit()
+    if s.len() != 8 || !same(&s[..5], b"HTTP/") || s[6] != b'.' {
+        return false;
+    }
+    s[5].is_ascii_digit() && s[7].is_ascii_digit()
 }
 
 // Whether s is the eight bytes t. By `eight_at`, for speed: it compares them as one number.

@@ -9,7 +9,7 @@ use Rattle.http_head.proofs.fields.field_lines.Given as goal
 
 abbrev pub invariant-loop-end : goal.invariant-loop-end
 invariant-loop-end l =
-    (l.end ≤ length l.head) × (length l.places ≡ length l.initial.places) × (l.end < length l.head → ends_line (drop l.end l.head) ≡ true)
+    (l.end ≤ length l.head) × (l.end < length l.head → ends_line (drop l.end l.head) ≡ true)
     × Standing is_name l.head (lines_of (drop l.end l.head)).others (l.end + 2) l.initial.places l.n l.places
 
 abbrev pub decreases-loop-end : goal.decreases-loop-end

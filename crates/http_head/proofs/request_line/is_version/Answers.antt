@@ -1,25 +1,27 @@
 use mathlib.Core.Path.{sym, ◌∙◌}
-use lib.Seq.{length-take-le}
-use Rattle.http_head.proofs.Requests.{other_length, other_name, other-major, other-dot, last-digit}
-use native.Mathlib.Omega.{arith}
+use Rattle.octets.specs.Kinds.{is_digit}
+use Rattle.http_head.proofs.Requests.{other_length, other_name, other-dot, other-major, last-digit}
 use Rattle.http_head.proofs.request_line.is_version.Goals as goal
+use Rattle.http_head.proofs.request_line.is_version.Goals.{then-s-ne8-via-then-s-ne8, then-s-ne8-via-else-s-ne8+then-not-same, then-s-ne8-via-else-s-ne8+else-not-same+then-s-ne46}
 
 pub returns-then-s-ne8 : goal.returns-then-s-ne8
-returns-then-s-ne8 c = sym (other_length _ c.if-s-ne8.true)
+returns-then-s-ne8 c =
+    sym
+    (elim c.then-s-ne8.branch [
+      | then-s-ne8-via-then-s-ne8 w ↦ other_length _ w.if-s-ne8.true
+      | then-s-ne8-via-else-s-ne8+then-not-same w ↦ other_name _ (sym w.same.ensures ∙ w.if-not-same.true)
+      | then-s-ne8-via-else-s-ne8+else-not-same+then-s-ne46 w ↦ other-dot _ w.if-s-ne46.true
+    ])
 
-pub slice_bounds-same-end : goal.slice_bounds-same-end
-slice_bounds-same-end c = sym (length-take-le 5 c.args.s.now (omega arith))
+pub returns-then-is_ascii_digit : goal.returns-then-is_ascii_digit
+unfolding is_digit
+returns-then-is_ascii_digit c =
+    let d = c.if-is_ascii_digit.ensures in
+    c.is_ascii_digit-then-is_ascii_digit.ensures.value
+    ∙ sym (last-digit _ c.if-s-ne8.false (sym c.same.ensures ∙ c.if-not-same.false) (sym d.value) c.if-s-ne46.false)
 
-pub returns-then-not-same : goal.returns-then-not-same
-returns-then-not-same c = sym (other_name _ (sym c.same.ensures ∙ c.if-not-same.true))
-
-pub returns-then-not-is_kind : goal.returns-then-not-is_kind
-returns-then-not-is_kind c = sym (other-major _ (sym c.is_kind.ensures ∙ c.if-not-is_kind.true))
-
-pub returns-then-s-ne46 : goal.returns-then-s-ne46
-returns-then-s-ne46 c = sym (other-dot _ c.if-s-ne46.true)
-
-pub returns : goal.returns
-returns c =
-    c.is_kind-2.ensures
-    ∙ sym (last-digit _ c.if-s-ne8.false (sym c.same.ensures ∙ c.if-not-same.false) (sym c.is_kind.ensures ∙ c.if-not-is_kind.false) c.if-s-ne46.false)
+pub returns-else-is_ascii_digit : goal.returns-else-is_ascii_digit
+unfolding is_digit
+returns-else-is_ascii_digit c =
+    let d = c.if-is_ascii_digit.ensures in
+    c.if-is_ascii_digit.false ∙ sym (other-major _ (sym d.value))

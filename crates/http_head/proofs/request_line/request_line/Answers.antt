@@ -1,18 +1,12 @@
-use mathlib.Core.Path.{◌≡◌, sym, ap, ◌∙◌}
+use mathlib.Core.Path.{sym, ap, ◌∙◌}
 use Prim.Native.Nat.{◌+◌}
-use lib.ListN.{drop}
 use lib.Seq.{length-take-le}
 use Rattle.octets.proofs.Lists.{from}
-use Rattle.http_head.specs.RequestLine.{version_of, version_outcome}
+use Rattle.http_head.specs.RequestLine.{version_of}
 use Rattle.http_head.proofs.Requests.{one-part, two-parts, four-parts, no-method, bad-version, whole}
+use borrow.Author.Rules.{rules}
 use native.Mathlib.Omega.{arith}
 use Rattle.http_head.proofs.request_line.request_line.Goals as goal
-use Rattle.http_head.proofs.request_line.request_line.Goals.{After-minor_version-v}
-
-version-is :
-    (c : After-minor_version-v)
-    → version_of (drop (c.find-t.result + 1) c.args.line.now) ≡ version_outcome c.minor_version-v.result
-version-is c = sym (c.minor_version-v.ensures ∙ ap version_of (from c.args.line.now (c.find-t.result + 1)))
 
 pub returns-then-line-m : goal.returns-then-line-m
 returns-then-line-m c = sym (one-part _ _ c.find-m.ensures c.if-line-m.true)
@@ -31,12 +25,17 @@ pub returns-then-not-is_method : goal.returns-then-not-is_method
 returns-then-not-is_method c =
     sym (no-method _ _ c.find-m.ensures c.if-line-m.false _ c.find-t.ensures c.if-line-t.false _ c.find.ensures c.if-find-line.false (sym c.is_method.ensures ∙ c.if-not-is_method.true))
 
-pub returns-in_default : goal.returns-in_default
-returns-in_default c =
-    rw (c.number.ensures, c.in_default.is)
-    (sym (bad-version _ _ c.find-m.ensures c.if-line-m.false _ c.find-t.ensures c.if-line-t.false _ c.find.ensures c.if-find-line.false (sym c.is_method.ensures ∙ c.if-not-is_method.false) _ (version-is (goal.at.returns-in_default c).After-minor_version-v ∙ ap version_outcome c.in_default.is)))
+pub returns-in_err-minor : goal.returns-in_err-minor
+returns-in_err-minor c =
+    let e = c.in_err-minor.ensures in
+    let v = sym (e ∙ ap version_of (from c.args.line.now (c.find-t.result + 1))) in
+    let m = sym c.is_method.ensures ∙ c.if-not-is_method.false in
+    rw (bad-version _ _ c.find-m.ensures c.if-line-m.false _ c.find-t.ensures c.if-line-t.false _ c.find.ensures c.if-find-line.false m _ v)
+    (search rules)
 
 pub returns : goal.returns
 returns c =
+    let o = c.in_ok-minor.ensures in
+    let v = sym (o ∙ ap version_of (from c.args.line.now (c.find-t.result + 1))) in
     let m = sym c.is_method.ensures ∙ c.if-not-is_method.false in
-    sym (whole _ _ c.find-m.ensures c.if-line-m.false _ c.find-t.ensures c.if-line-t.false _ c.find.ensures c.if-find-line.false m _ (version-is (goal.at.returns c).After-minor_version-v ∙ ap version_outcome c.in-Minor.is))
+    sym (whole _ _ c.find-m.ensures c.if-line-m.false _ c.find-t.ensures c.if-line-t.false _ c.find.ensures c.if-find-line.false m _ v)
