@@ -8,7 +8,7 @@ use Prim.Native.Nat.{ℕ, zero, suc, ◌+◌, ◌-◌, ◌≤◌, ◌<◌}
 use native.Mathlib.Omega.{arith}
 use native.Mathlib.Numerals.{add-one}
 use lib.Dec.{leb, ltb}
-use lib.ListN.{length, take, drop, get_or, length-append, drop_of_length-le}
+use lib.ListN.{length, take, drop, length-append, drop_of_length-le}
 use lib.Seq.{drop-drop, drop-cons, length-take-le, take_at}
 use borrow.Author.Tests.{leb-true, ltb-true, ltb-false}
 use Rattle.octets.specs.Outcome.{Outcome, refused, gives, then}
@@ -17,7 +17,7 @@ use Rattle.octets.specs.declared.refusal.Refusal.{Refusal}
 use Rattle.octets.proofs.Lists.{part-take}
 use Rattle.octets.proofs.Outcomes.{given-gives, then-gives, gives-once}
 use Rattle.http_head.specs.Lines.{ends_line, lines_of, line_run}
-use Rattle.http_head.specs.Fields.{Field, field_of, ahead, each_field, fields_in, fields_of, name_length, value_start, value_length, spans_at, places_from, places_of, Stored, field_at, fields_at, nowhere, Inside, AllInside}
+use Rattle.http_head.specs.Fields.{Field, field_of, ahead, each_field, fields_in, fields_of, name_length, value_start, value_length, spans_at, places_from, places_of, Stored, field_at, fields_at, field_in, nowhere, InHead, AllInside}
 use Rattle.http_head.specs.Claims.{FieldStands, FieldsStand}
 use Rattle.http_head.specs.declared.fields.Field.{Field as Spans}
 use Rattle.http_head.proofs.LineCuts.{line-le, line-ends, line-within, ends-inside, first-line, other-lines, no_lines, next-line, next-ends}
@@ -26,7 +26,7 @@ use Rattle.http_head.proofs.FieldLines.{field-stands}
 -- the next stored field, the one with number k
 pub fields-next :
     (head : List ℕ) (ps : List Spans) (k : ℕ) → k < length ps
-    → fields_at head (drop k ps) ≡ field_at head (get_or ps k nowhere) ∷ fields_at head (drop (k + 1) ps)
+    → fields_at head (drop k ps) ≡ field_at head ps k ∷ fields_at head (drop (k + 1) ps)
 fields-next head ps k h = rw (add-one, drop-cons ps k nowhere h)
 
 pub fields-end : (head : List ℕ) (ps : List Spans) (k : ℕ) → length ps ≤ k → fields_at head (drop k ps) ≡ []
@@ -90,13 +90,13 @@ module _
   value_there : take (value_length l) (drop (at + value_start l) head) ≡ f.value
   value_there = sym (st.value ∙ part_of (value_start l) (value_length l) st.value_inside)
 
-  field-there : field_at head (spans_at at l) ≡ f
+  field-there : field_in head (spans_at at l) ≡ f
   field-there = rw (name-there, value_there)
 
-  inside-there : Inside head (spans_at at l)
+  inside-there : InHead head (spans_at at l)
   inside-there = record { name = omega (arith, st.colon_inside); value = omega (arith, st.value_inside) }
 
-inside-next : (head : List ℕ) (p : Spans) (ps : List Spans) → Inside head p → AllInside head ps → AllInside head (p ∷ ps)
+inside-next : (head : List ℕ) (p : Spans) (ps : List Spans) → InHead head p → AllInside head ps → AllInside head (p ∷ ps)
 inside-next head p ps a more zero h = a
 inside-next head p ps a more (suc j) h = more j (omega arith)
 

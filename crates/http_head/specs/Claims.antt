@@ -1,6 +1,6 @@
 -- What is claimed of the head of a request: where it ends, its request line and its field lines.
 -- Assumes nothing.
-use Rattle.std.specs.Prelude.{ℕ, ◌+◌, ◌-◌, ◌≤◌, ◌<◌, ◌≡◌, Bool, true, ◌↔◌, List, [], ◌∷◌, ◌++◌, length, take, drop, get_or, Some, Ok, Err}
+use Rattle.std.specs.Prelude.{ℕ, ◌+◌, ◌-◌, ◌≤◌, ◌<◌, ◌≡◌, Bool, true, ◌↔◌, List, [], ◌∷◌, ◌++◌, length, take, drop, Some, Ok, Err}
 use Rattle.octets.specs.Outcome.{refused, gives}
 use Rattle.octets.specs.Kinds.{one_of, is_value}
 use Rattle.octets.specs.Scan.{all_of}
@@ -8,21 +8,7 @@ use Rattle.octets.specs.Lists.{All, Without, NoNul}
 use Rattle.http_head.specs.Head.{head_of}
 use Rattle.http_head.specs.Lines.{lines_of, line_run}
 use Rattle.http_head.specs.RequestLine.{FirstLine, is_method, is_version, is_served, version_text, request_line_of, line_places_of, line_outcome}
-use Rattle.http_head.specs.Fields.{
-  Field,
-  is_field_name,
-  field_of,
-  fields_of,
-  name_length,
-  value_start,
-  value_length,
-  Stored,
-  field_at,
-  fields_at,
-  AllInside,
-  nowhere,
-  part_at,
-}
+use Rattle.http_head.specs.Fields.{Field, is_field_name, field_of, fields_of, name_length, value_start, value_length, Stored, field_at, fields_at, AllInside, part_at}
 use Rattle.octets.specs.Refusal.{number_of}
 use Rattle.octets.specs.declared.refusal.Refusal.{Refusal}
 use Rattle.http_head.specs.declared.request_line.RequestLine.{RequestLine}
@@ -133,7 +119,7 @@ HeadHolds =
 pub record FieldsInTurn : Type 0 where
   pub next :
       (head : List ℕ) (places : List Spans) (k : ℕ) → k < length places
-      → fields_at head (drop k places) ≡ field_at head (get_or places k nowhere) ∷ fields_at head (drop (k + 1) places)
+      → fields_at head (drop k places) ≡ field_at head places k ∷ fields_at head (drop (k + 1) places)
   pub end : (head : List ℕ) (places : List Spans) (k : ℕ) → length places ≤ k → fields_at head (drop k places) ≡ []
 
 -- no other number is given: 11 or 1 for the head, 12 or 13 for the request line, 15 for the field lines

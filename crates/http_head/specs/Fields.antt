@@ -109,9 +109,13 @@ places_of head = places_from (line_run head + 2) (lines_of head).others
 abbrev pub fields_outcome : Result ℕ Refusal → Outcome ℕ
 fields_outcome = outcome (λ n. n)
 
+-- a list with others at its front, and else as it was
+abbrev pub with_front : List Spans → List Spans → List Spans
+with_front before ps = ps ++ drop (length ps) before
+
 -- the list before and after: the places are stored at its front, and else it is as it was; on 15 the first 64 may be any
 abbrev pub StoredAs : List ℕ → List Spans → List Spans → Result ℕ Refusal → Type 0
-StoredAs head before after (Ok n) = after ≡ places_of head ++ drop (length (places_of head)) before
+StoredAs head before after (Ok n) = after ≡ with_front before (places_of head)
 StoredAs head before after (Err e) = (length after ≡ length before) × (drop 64 after ≡ drop 64 before)
 
 -- the answer r, and the list before and after, are those of the field lines of a head
@@ -126,22 +130,30 @@ abbrev pub part_at : List ℕ → Span → List ℕ
 part_at head s = take s.len (drop s.start head)
 
 -- the field that stands there
-abbrev pub field_at : List ℕ → Spans → Field
-field_at head f = record { name = part_at head f.name; value = part_at head f.value }
+abbrev pub field_in : List ℕ → Spans → Field
+field_in head f = record { name = part_at head f.name; value = part_at head f.value }
 
 -- .. and so for each place
 abbrev pub fields_at : List ℕ → List Spans → List Field
-fields_at head fs = map (field_at head) fs
-
--- the name and the value of a field lie in head
-pub record Inside (head : List ℕ) (f : Spans) : Type 0 where
-  pub name : f.name.start + f.name.len ≤ length head
-  pub value : f.value.start + f.value.len ≤ length head
+fields_at head ps = map (field_in head) ps
 
 -- no place in a list
 abbrev pub nowhere : Spans
 nowhere = record { name = record { start = 0; len = 0 }; value = record { start = 0; len = 0 } }
 
--- .. and so for each field of a list
+-- the field with number k
+abbrev pub field_at : List ℕ → List Spans → ℕ → Field
+field_at head ps k = field_in head (get_or ps k nowhere)
+
+-- the name and the value of a field lie in head
+pub record InHead (head : List ℕ) (f : Spans) : Type 0 where
+  pub name : f.name.start + f.name.len ≤ length head
+  pub value : f.value.start + f.value.len ≤ length head
+
+-- .. of the field with number k
+abbrev pub Inside : List ℕ → List Spans → ℕ → Type 0
+Inside head ps k = InHead head (get_or ps k nowhere)
+
+-- .. and so for each
 abbrev pub AllInside : List ℕ → List Spans → Type 0
-AllInside head fs = (k : ℕ) → k < length fs → Inside head (get_or fs k nowhere)
+AllInside head ps = (k : ℕ) → k < length ps → Inside head ps k
