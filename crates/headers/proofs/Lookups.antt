@@ -14,9 +14,12 @@ use Rattle.octets.specs.Compare.{same_bytes}
 use Rattle.octets.specs.Lists.{All, ◌&◌, is_nil}
 use Rattle.octets.proofs.Outcomes.{then-gives, given-gives}
 use Rattle.headers.specs.Block.{Header, printed, headers_of, parsed, is_some, well_formed, count_of, header_in, HeaderFound, Proper}
-use Rattle.headers.specs.Lookup.{Part, part_option, place_in, value_in, lookup_of}
+use Rattle.octets.specs.declared.span.Span.{Span}
+use Rattle.headers.specs.Lookup.{part_option, place_in, value_in, lookup_of}
 use Rattle.headers.specs.Claims.{Headed, LookupFindsValue, WellFormedHeaded, HeadersFew, HeadersProper}
-use Rattle.headers.specs.Setting.{in_first, in_second, first_found, setting_of}
+use Rattle.headers.specs.Setting.{first_found, setting_of}
+use Rattle.headers.specs.declared.block.HeaderPlace.{HeaderPlace}
+use Rattle.headers.specs.declared.setting.Held.TheVariants.{First, Second}
 use Rattle.headers.proofs.Blocks.{printed-read, behind-name, behind-printed}
 use Rattle.headers.proofs.Walks.{behind-header, none-behind, counted}
 
@@ -111,10 +114,10 @@ module _ (b name : List ℕ) (i n v : ℕ) where
       }
 
 module _ {b name : List ℕ} {i : ℕ} (r : Standing b name i) where
-  pub turn : (n v : ℕ) → HeaderFound b i (gives (record { name_end = n; value_end = v })) → Turn b name i n v
-  turn n v h =
-      let g = behind-header b i r.hs r.rest n v h in
-      turn_at b name i n v g.gs h.order g.rest (r.answer ∙ ap (λ (hs : List Header). gives (place_in name i hs)) g.is)
+  pub turn : (e : HeaderPlace) → HeaderFound b i (gives e) → Turn b name i e.name_end e.value_end
+  turn e h =
+      let g = behind-header b i r.hs r.rest e h in
+      turn_at b name i e.name_end e.value_end g.gs h.order g.rest (r.answer ∙ ap (λ (hs : List Header). gives (place_in name i hs)) g.is)
 
   pub ended : length b ≤ i → lookup_of b name ≡ gives None
   unfolding place_in
@@ -122,7 +125,7 @@ module _ {b name : List ℕ} {i : ℕ} (r : Standing b name i) where
 
 -- A value's place is within the block.
 
-fits_in : (name : List ℕ) (hs : List Header) (i : ℕ) (p : Part) → place_in name i hs ≡ Some p → p.start + p.len ≤ i + length (printed hs)
+fits_in : (name : List ℕ) (hs : List Header) (i : ℕ) (p : Span) → place_in name i hs ≡ Some p → p.start + p.len ≤ i + length (printed hs)
 unfolding place_in printed
 fits_in name [] i p e =
     let z : ◌≡◌ {A = ℕ} 0 1 = cc in
@@ -144,7 +147,7 @@ fits_in name (h ∷ hs) i p e = by (same_bytes h.name name) refl (fits_in name h
         let e' : place_in name after hs ≡ Some p = simp q at e in
         simp length-append (omega (arith, ih e'))
 
-pub place-fits : (b name : List ℕ) (p : Part) → lookup_of b name ≡ gives (Some p) → p.start + p.len ≤ length b
+pub place-fits : (b name : List ℕ) (p : Span) → lookup_of b name ≡ gives (Some p) → p.start + p.len ≤ length b
 unfolding lookup_of
 place-fits b name p e =
     let g = then-gives (parsed b) (λ hs. gives (place_in name 0 hs)) (Some p) e in
@@ -154,26 +157,26 @@ place-fits b name p e =
 
 -- Of two blocks.
 
-pub first_fits : (b c name : List ℕ) (p : Part) → setting_of b c name ≡ gives (in_first p) → p.start + p.len ≤ length b
+pub first_fits : (b c name : List ℕ) (p : Span) → setting_of b c name ≡ gives (Some (First p)) → p.start + p.len ≤ length b
 unfolding setting_of
 first_fits b c name p e =
-    let f = then-gives (lookup_of b name) _ (in_first p) e in
-    let s = then-gives (lookup_of c name) (λ q. gives (first_found f.it q)) (in_first p) f.next in
+    let f = then-gives (lookup_of b name) _ (Some (First p)) e in
+    let s = then-gives (lookup_of c name) (λ q. gives (first_found f.it q)) (Some (First p)) f.next in
     place-fits b name p (f.first ∙ ap gives (by f.it s.it s.next))
   where
-    by : (o q : Option Part) → gives (first_found o q) ≡ gives (in_first p) → o ≡ Some p
+    by : (o q : Option Span) → gives (first_found o q) ≡ gives (Some (First p)) → o ≡ Some p
     by (Some r) q t = cc
     by None (Some r) t = cc
     by None None t = cc
 
-pub second_fits : (b c name : List ℕ) (p : Part) → setting_of b c name ≡ gives (in_second p) → p.start + p.len ≤ length c
+pub second_fits : (b c name : List ℕ) (p : Span) → setting_of b c name ≡ gives (Some (Second p)) → p.start + p.len ≤ length c
 unfolding setting_of
 second_fits b c name p e =
-    let f = then-gives (lookup_of b name) _ (in_second p) e in
-    let s = then-gives (lookup_of c name) (λ q. gives (first_found f.it q)) (in_second p) f.next in
+    let f = then-gives (lookup_of b name) _ (Some (Second p)) e in
+    let s = then-gives (lookup_of c name) (λ q. gives (first_found f.it q)) (Some (Second p)) f.next in
     place-fits c name p (s.first ∙ ap gives (by f.it s.it s.next))
   where
-    by : (o q : Option Part) → gives (first_found o q) ≡ gives (in_second p) → q ≡ Some p
+    by : (o q : Option Span) → gives (first_found o q) ≡ gives (Some (Second p)) → q ≡ Some p
     by (Some r) q t = cc
     by None (Some r) t = cc
     by None None t = cc

@@ -1,91 +1,93 @@
--- Laws of names found by stored numbers.
+-- Laws of names found by the places that were stored.
 -- Assumes nothing.
-use Prim.Native.Nat.{ℕ, suc, ◌+◌, ◌-◌, ◌*◌, ◌/◌, ◌≤◌, ◌<◌}
+use Prim.Native.Nat.{ℕ, suc, ◌+◌, ◌-◌, ◌≤◌, ◌<◌}
 use Prim.{absurd}
 use mathlib.Core.Path.{◌≡◌, refl, sym, ap, ◌∙◌}
 use mathlib.Core.Bool.{Bool, true, false, cond, not, ◌&&◌, ◌||◌}
-use mathlib.Core.List.{List, [], ◌∷◌, ◌++◌}
-use native.Mathlib.Nat.{zero-add, add-zero, sub-zero}
+use mathlib.Core.List.{List, [], ◌∷◌, ◌++◌, map, append_assoc, append-nil}
+use native.Mathlib.Nat.{zero-add, add-zero}
+use native.Mathlib.Numerals.{add-one}
 use native.Mathlib.Omega.{arith}
-use lib.Dec.{eqb, ltb}
-use lib.ListN.{length, take, drop, get_or, set, length-append, length-drop, length-set, length-take}
-use lib.Seq.{drop-drop, take-append_seam, take-nil, take_all, get_or-drop}
-use borrow.Author.Tests.{eqb-true, eqb-false, ltb-true, ltb-false}
+use lib.Dec.{ltb}
+use lib.ListN.{length, take, drop, get_or, set, length-append, length-drop, length-set, length-take, drop_of_length-le}
+use lib.Seq.{drop-cons, drop-drop, drop-append-add, set_split, take-append_seam, take-append-le, take-nil, take_all, take_at}
+use borrow.Author.Tests.{ltb-true, ltb-false}
 use Rattle.octets.specs.Outcome.{Outcome, refused, gives, then}
 use Rattle.octets.specs.Compare.{same_bytes}
-use Rattle.octets.specs.Lists.{is_in, different}
-use Rattle.octets.specs.Copy.{over}
-use Rattle.octets.proofs.Outcomes.{given-gives, gives-once, then_same}
-use Rattle.octets.proofs.Copies.{over-nil, two-stored}
+use Rattle.octets.specs.Lists.{no_more, ◌&◌, is_in, different}
+use Rattle.octets.specs.declared.span.Span.{Span}
+use Rattle.octets.proofs.Alls.{all_after}
+use Rattle.octets.proofs.Outcomes.{given-gives, then-gives, gives-once, then_same}
 use Rattle.headers.specs.Block.{Header, names, printed, headers_of, parsed, count_of, header_in, HeaderFound}
-use Rattle.headers.specs.Names.{name_places, with_pair, NamesIn, name_at, names_at, Inside, AllInside}
+use Rattle.headers.specs.Lookup.{part_in}
+use Rattle.headers.specs.Names.{name_places, places_of, with_place, NamesIn, Inside, AllInside, nowhere}
 use Rattle.headers.specs.Claims.{NamesHeld}
+use Rattle.headers.specs.declared.block.HeaderPlace.{HeaderPlace}
 use Rattle.headers.proofs.Blocks.{printed-read, behind-printed}
 use Rattle.headers.proofs.Walks.{no_header, past-header, counted}
 
--- Storing: a writer that has stored the numbers of the n headers before i.
-
-places-length : (hs : List Header) (i : ℕ) → length (name_places i hs) ≡ 2 * length hs
+places-length : (hs : List Header) (i : ℕ) → length (name_places i hs) ≡ length hs
 unfolding name_places
 places-length [] i = refl
-places-length (h ∷ hs) i = omega (arith, places-length hs (i + length h.name + 1 + length h.value + 1))
+places-length (h ∷ hs) i = ap suc (places-length hs (i + length h.name + 1 + length h.value + 1))
 
--- as many of the numbers as fit behind the first n pairs of a list d
-abbrev pub fitting : List ℕ → ℕ → List ℕ → List ℕ
-fitting d n ps = take (2 * ((length d - 2 * n) / 2)) ps
+-- Storing: a writer that has passed the n headers before i, whose names have the places front.
 
-pub record Storing (b before out : List ℕ) (i n : ℕ) : Type 0 where
+pub record Storing (b : List ℕ) (before out : List Span) (i n : ℕ) : Type 0 where
+  pub front : List Span
   pub few : n ≤ i
+  pub many : length front ≡ n
   pub size : length out ≡ length before
+  pub held : out ≡ take (length before) front ++ drop n before
   pub count : count_of b ≡ then (parsed (drop i b)) (λ hs. gives (n + length hs))
-  pub stored :
-      (all hs : List Header) → parsed b ≡ gives all → parsed (drop i b) ≡ gives hs
-      → over out (2 * n) (fitting out n (name_places i hs)) ≡ over before 0 (take (2 * (length before / 2)) (name_places 0 all))
+  pub places : places_of b ≡ then (parsed (drop i b)) (λ hs. gives (front ++ name_places i hs))
 
-pub start : (b d : List ℕ) → Storing b d d 0 0
+pub start : (b : List ℕ) (d : List Span) → Storing b d d 0 0
+unfolding places_of
 start b d =
     record {
+      front = [];
       few = omega arith;
+      many = refl;
       size = refl;
+      held = rw take-nil;
       count = then_same (parsed b) _ _ (λ hs. ap gives (sym (zero-add (length hs))));
-      stored =
-          λ all hs p q.
-          ap (λ (x : List Header). over d 0 (fitting d 0 (name_places 0 x))) (gives-once hs all (sym q ∙ p))
-          ∙ ap (λ (k : ℕ). over d 0 (take (2 * (k / 2)) (name_places 0 all))) (sub-zero (length d));
+      places = refl;
     }
 
--- one pair more, whether it fits or not
-module _ (d : List ℕ) (n x y : ℕ) where
-  pub pair_size : length (with_pair d n x y) ≡ length d
-  pair_size = by (ltb n (length d / 2))
-    where
-      by : (t : Bool) → length (cond t (set (set d (2 * n) x) (2 * n + 1) y) d) ≡ length d
-      by true = simp length-set
-      by false = refl
+-- one place more, whether it fits or not
+place-size : (d : List Span) (n : ℕ) (p : Span) → length (with_place d n p) ≡ length d
+place-size d n p = by (ltb n (length d))
+  where
+    by : (t : Bool) → length (cond t (set d n p) d) ≡ length d
+    by true = length-set d n p
+    by false = refl
 
-  pair-stored :
-      (ps : List ℕ)
-      → over (with_pair d n x y) (2 * (n + 1)) (fitting d (n + 1) ps) ≡ over d (2 * n) (fitting d n (x ∷ (y ∷ ps)))
-  pair-stored ps = by (ltb n (length d / 2)) refl
+module _ (d front out : List Span) (n : ℕ) (p : Span) (m : length front ≡ n) (z : length out ≡ length d) (h : out ≡ take (length d) front ++ drop n d) where
+  place_stored : with_place out n p ≡ take (length d) (front ++ p ∷ []) ++ drop (n + 1) d
+  place_stored = by (ltb n (length out)) refl
     where
-      by :
-          (t : Bool) → ltb n (length d / 2) ≡ t
-          → over (cond t (set (set d (2 * n) x) (2 * n + 1) y) d) (2 * (n + 1)) (fitting d (n + 1) ps) ≡ over d (2 * n) (fitting d n (x ∷ (y ∷ ps)))
+      by : (t : Bool) → ltb n (length out) ≡ t → cond t (set out n p) out ≡ take (length d) (front ++ p ∷ []) ++ drop (n + 1) d
       by true e =
-          let l : n < length d / 2 = ltb-true n (length d / 2) e in
-          let z : 2 * ((length d - 2 * n) / 2) ≡ suc (suc (2 * ((length d - 2 * (n + 1)) / 2))) = omega arith in
-          let w : 2 * (n + 1) ≡ 2 * n + 2 = omega arith in
-          rw (z, w) (two-stored d (2 * n) x y (take (2 * ((length d - (2 * n + 2)) / 2)) ps) (simp length-take (omega arith)))
+          let l : n < length out = ltb-true n (length out) e in
+          let w : out ≡ front ++ drop n d = rw (take_all (length d) front (omega arith)) at h in
+          let f : take n (front ++ drop n d) ≡ front = take_at front (drop n d) n m in
+          let s : suc n ≡ length front + 1 = omega arith in
+          let g : drop (suc n) (front ++ drop n d) ≡ drop (n + 1) d =
+          ap (λ (k : ℕ). drop k (front ++ drop n d)) s ∙ drop-append-add front (drop n d) 1 ∙ drop-drop 1 n d in
+          let a : take (length d) (front ++ p ∷ []) ≡ front ++ p ∷ [] = take_all (length d) (front ++ p ∷ []) (simp length-append (omega arith)) in
+          set_split out n p l ∙ rw (w, f, g, a) (sym (append_assoc front (p ∷ []) (drop (n + 1) d)))
       by false e =
-          let l : length d / 2 ≤ n = ltb-false n (length d / 2) e in
-          let z : 2 * ((length d - 2 * n) / 2) ≡ 0 = omega arith in
-          let w : 2 * ((length d - 2 * (n + 1)) / 2) ≡ 0 = omega arith in
-          rw (z, w) (over-nil d (2 * (n + 1)) ∙ sym (over-nil d (2 * n)))
+          let l : length out ≤ n = ltb-false n (length out) e in
+          let a : take (length d) (front ++ p ∷ []) ≡ take (length d) front = take-append-le (length d) front (p ∷ []) (omega arith) in
+          let f : drop n d ≡ [] = drop_of_length-le d (omega arith) in
+          let g : drop (n + 1) d ≡ [] = drop_of_length-le d (omega arith) in
+          h ∙ rw (a, f, g)
 
--- the numbers of a header that was found, before those of the ones behind it
+-- the place of a header's name that was found, before those of the ones behind it
 header-places :
     (b : List ℕ) (i n v : ℕ) (gs : List Header) → (i < n) × (n < v) × (v < length b)
-    → name_places i (header_in b i n v ∷ gs) ≡ i ∷ ((n - i) ∷ name_places (v + 1) gs)
+    → name_places i (header_in b i n v ∷ gs) ≡ record { start = i; len = n - i } ∷ name_places (v + 1) gs
 unfolding name_places
 header-places b i n v gs o =
     let l : length (take (n - i) (drop i b)) ≡ n - i = simp (length-take, length-drop) (omega arith) in
@@ -93,185 +95,170 @@ header-places b i n v gs o =
     let e : i + (n - i) + 1 + (v - (n + 1)) + 1 ≡ v + 1 = omega arith in
     rw (l, m, e)
 
-module _ {b before out : List ℕ} {i n : ℕ} (s : Storing b before out i n) where
+module _ {b : List ℕ} {before out : List Span} {i n : ℕ} (s : Storing b before out i n) where
   pub more :
-      (e v : ℕ) (d : List ℕ) → HeaderFound b i (gives (record { name_end = e; value_end = v })) → d ≡ with_pair out n i (e - i)
-      → Storing b before d (v + 1) (n + 1)
-  more e v d h w =
+      (e : HeaderPlace) (d : List Span) → HeaderFound b i (gives e) → d ≡ with_place out n (record { start = i; len = e.name_end - i })
+      → Storing b before d (e.value_end + 1) (n + 1)
+  more e d h w =
+      let p : Span = record { start = i; len = e.name_end - i } in
       rw w
       (record {
+        front = s.front ++ p ∷ [];
         few = omega (arith, s.few, h.order);
-        size = pair_size out n i (e - i) ∙ s.size;
-        count = s.count ∙ past-header b i e v _ h ∙ then_same (parsed (drop (v + 1) b)) _ _ (λ hs. ap gives (omega arith));
-        stored =
-            λ all gs p q.
-            let t : parsed (drop i b) ≡ gives (header_in b i e v ∷ gs) =
-            sym h.answer ∙ ap (λ (o : Outcome (List Header)). then o (λ hs. gives (header_in b i e v ∷ hs))) q in
-            ap (λ (k : ℕ). over (with_pair out n i (e - i)) (2 * (n + 1)) (take (2 * ((k - 2 * (n + 1)) / 2)) (name_places (v + 1) gs))) (pair_size out n i (e - i))
-            ∙ pair-stored out n i (e - i) (name_places (v + 1) gs)
-            ∙ ap (λ (ps : List ℕ). over out (2 * n) (fitting out n ps)) (sym (header-places b i e v gs h.order))
-            ∙ s.stored all (header_in b i e v ∷ gs) p t;
+        many = simp length-append (omega (arith, s.many));
+        size = place-size out n p ∙ s.size;
+        held = place_stored before s.front out n p s.many s.size s.held;
+        count = s.count ∙ past-header b i e _ h ∙ then_same (parsed (drop (e.value_end + 1) b)) _ _ (λ hs. ap gives (omega arith));
+        places =
+            s.places ∙ past-header b i e _ h
+            ∙ then_same (parsed (drop (e.value_end + 1) b)) _ _
+            (λ hs.
+            ap gives
+            (ap (◌++◌ s.front) (header-places b i e.name_end e.value_end hs h.order)
+            ∙ sym (append_assoc s.front (p ∷ []) (name_places (e.value_end + 1) hs))));
       })
 
   pub unheaded : (k : ℕ) → HeaderFound b i (refused k) → count_of b ≡ refused k
   unheaded k h = s.count ∙ ap (λ (o : Outcome (List Header)). then o (λ hs. gives (n + length hs))) (sym h.answer)
 
   -- of a malformed block nothing is said
-  pub none-stored : (k : ℕ) → count_of b ≡ refused k → (hs : List Header) → parsed b ≡ gives hs → out ≡ over before 0 (take (2 * (length before / 2)) (name_places 0 hs))
-  none-stored k e hs p =
-      let q : count_of b ≡ gives (length hs) = ap (λ (o : Outcome (List Header)). then o (λ hs. gives (length hs))) p in
-      let r : refused k ≡ gives (length hs) = sym e ∙ q in
+  pub none-stored : (k : ℕ) → HeaderFound b i (refused k) → (ps : List Span) → NamesIn b ps → out ≡ take (length before) ps ++ drop (length ps) before
+  none-stored k h ps p =
+      let q : places_of b ≡ refused k = s.places ∙ ap (λ (o : Outcome (List Header)). then o (λ hs. gives (s.front ++ name_places i hs))) (sym h.answer) in
+      let r : refused k ≡ gives ps = sym q ∙ p in
       absurd (let z : ◌≡◌ {A = ℕ} 0 1 = cc in omega arith)
 
   module _ (h : length b ≤ i) where
     pub all-counted : count_of b ≡ gives n
     all-counted = s.count ∙ rw (no_header b i h) (ap gives (add-zero n))
 
-    pub all-stored : (hs : List Header) → parsed b ≡ gives hs → out ≡ over before 0 (take (2 * (length before / 2)) (name_places 0 hs))
+    pub all-stored : (ps : List Span) → NamesIn b ps → out ≡ take (length before) ps ++ drop (length ps) before
     unfolding name_places
-    all-stored all p = sym (over-nil out (2 * n)) ∙ ap (over out (2 * n)) (sym (take-nil (2 * ((length out - 2 * n) / 2)))) ∙ s.stored all [] p (no_header b i h)
+    all-stored ps p =
+        let q : gives (s.front ++ []) ≡ gives ps = sym (s.places ∙ rw (no_header b i h)) ∙ p in
+        let w : s.front ≡ ps = sym (append-nil s.front) ∙ gives-once (s.front ++ []) ps q in
+        let l : n ≡ length ps = sym s.many ∙ ap length w in
+        s.held ∙ rw (w, l)
+
+-- where there is room for the block's n names
+pub names-held : NamesHeld
+unfolding places_of
+names-held b before after r n f e room =
+    let g = counted b n e in
+    let ps : List Span = name_places 0 g.hs in
+    let m : NamesIn b ps = rw g.is in
+    let l : length ps ≡ n = places-length g.hs 0 ∙ g.count in
+    let a : take (length before) ps ≡ ps = take_all (length before) ps (omega arith) in
+    m ∙ ap gives (sym (ap (take n) (f.stored ps m) ∙ rw a (take_at ps (drop (length ps) before) n l)))
 
 -- Reading back.
-
--- of the names with the numbers from k on
-pub record Found (b ps : List ℕ) (k : ℕ) (hs : List Header) : Type 0 where
-  pub are : names_at b ps k (length hs) ≡ names hs
-  pub inside : (j : ℕ) → k ≤ j → j < k + length hs → Inside b ps j
 
 -- where the header behind h begins, which begins at i
 abbrev pub after : ℕ → Header → ℕ
 after i h = i + length h.name + 1 + length h.value + 1
 
-module _
-    (h : Header) (hs : List Header) (b ps t : List ℕ) (i k : ℕ) (l : i ≤ length b)
-    (e : drop i b ≡ h.name ++ 0 ∷ (h.value ++ 0 ∷ printed hs))
-    (d : drop (2 * k) ps ≡ i ∷ (length h.name ∷ (name_places (after i h) hs ++ t))) where
-  pub start-at : get_or ps (2 * k) 0 ≡ i
-  start-at =
-      let z : 2 * k + 0 ≡ 2 * k = add-zero (2 * k) in
-      sym (get_or-drop (2 * k) ps 0 0 ∙ ap (λ (x : ℕ). get_or ps x 0) z) ∙ ap (λ (x : List ℕ). get_or x 0 0) d
+-- the parts at some places
+abbrev pub parts : List ℕ → List Span → List (List ℕ)
+parts b ps = map (part_in b) ps
 
-  pub len-at : get_or ps (2 * k + 1) 0 ≡ length h.name
-  len-at = sym (get_or-drop (2 * k) ps 1 0) ∙ ap (λ (x : List ℕ). get_or x 1 0) d
+-- of headers that are printed from i on
+pub record Found (b : List ℕ) (i : ℕ) (hs : List Header) : Type 0 where
+  pub inside : AllInside b (name_places i hs)
+  pub are : parts b (name_places i hs) ≡ names hs
 
-  front : take (length h.name) (drop i b) ≡ h.name
-  front = ap (take (length h.name)) e ∙ take-append_seam h.name (0 ∷ (h.value ++ 0 ∷ printed hs))
-
-  pub own_name : name_at b ps k ≡ h.name
-  own_name = rw (start-at, len-at) front
-
-  sizes : length b - i ≡ length h.name + suc (length h.value + suc (length (printed hs)))
-  sizes = sym (length-drop i b) ∙ ap length e ∙ simp length-append
+module _ (h : Header) (hs : List Header) (b : List ℕ) (i : ℕ) (l : i ≤ length b) (e : drop i b ≡ h.name ++ 0 ∷ (h.value ++ 0 ∷ printed hs)) where
+  pub own_name : part_in b (record { start = i; len = length h.name }) ≡ h.name
+  own_name = ap (take (length h.name)) e ∙ take-append_seam h.name (0 ∷ (h.value ++ 0 ∷ printed hs))
 
   pub within : after i h ≤ length b
-  within = omega (arith, sizes)
+  within =
+      let s : length b - i ≡ length h.name + suc (length h.value + suc (length (printed hs))) = sym (length-drop i b) ∙ ap length e ∙ simp length-append in
+      omega arith
 
-  pub numbers : drop (2 * (k + 1)) ps ≡ name_places (after i h) hs ++ t
-  numbers =
-      let z : 2 * k + 2 ≡ 2 * (k + 1) = omega arith in
-      sym (drop-drop 2 (2 * k) ps ∙ ap (λ (x : ℕ). drop x ps) z) ∙ ap (drop 2) d
+found_in : (hs : List Header) (b : List ℕ) (i : ℕ) → i ≤ length b → drop i b ≡ printed hs → Found b i hs
+unfolding name_places printed
+found_in [] b i l e = record { inside = no_more; are = refl }
+found_in (h ∷ hs) b i l e =
+    let w = within h hs b i l e in
+    let r = found_in hs b (after i h) w (behind-printed b i h hs e) in
+    let o = own_name h hs b i l e in
+    record { inside = omega arith & r.inside; are = rw (o, r.are) }
 
-  by : Found b ps (k + 1) hs → (j : ℕ) (q : Bool) → eqb j k ≡ q → k ≤ j → j < k + suc (length hs) → Inside b ps j
-  by ih j true q lo hi =
-      let z : j ≡ k = eqb-true j k q in
-      rw (z, start-at, len-at) (omega (arith, sizes))
-  by ih j false q lo hi = ih.inside j (omega (arith, eqb-false j k q)) (omega arith)
+-- what is known of a block's names by their places
+pub record Known (b : List ℕ) (ps : List Span) : Type 0 where
+  pub inside : AllInside b ps
+  pub answer : then (parsed b) (λ hs. gives (different (names hs))) ≡ gives (different (parts b ps))
 
-  one_found : Found b ps (k + 1) hs → Found b ps k (h ∷ hs)
-  unfolding names_at
-  one_found ih =
-      record {
-        are = ap (λ (x : List ℕ). x ∷ names_at b ps (k + 1) (length hs)) own_name ∙ ap (◌∷◌ h.name) ih.are;
-        inside = λ j lo hi. by ih j (eqb j k) refl lo hi;
-      }
+-- .. and of its headers
+pub record Named (b : List ℕ) (ps : List Span) : Type 0 where
+  pub hs : List Header
+  pub is : parsed b ≡ gives hs
+  pub places : name_places 0 hs ≡ ps
 
-found_in : (hs : List Header) (b ps t : List ℕ) (i k : ℕ) → i ≤ length b → drop i b ≡ printed hs → drop (2 * k) ps ≡ name_places i hs ++ t → Found b ps k hs
-unfolding name_places printed names_at
-found_in [] b ps t i k l e d = record { are = refl; inside = λ j lo hi. absurd (omega arith) }
-found_in (h ∷ hs) b ps t i k l e d =
-    one_found h hs b ps t i k l e d
-    (found_in hs b ps t (after i h) (k + 1) (within h hs b ps t i k l e d) (behind-printed b i h hs e) (numbers h hs b ps t i k l e d))
+pub named : (b : List ℕ) (ps : List Span) → NamesIn b ps → Named b ps
+unfolding places_of
+named b ps p =
+    let g = then-gives (parsed b) (λ hs. gives (name_places 0 hs)) ps p in
+    record { hs = g.it; is = g.first; places = gives-once (name_places 0 g.it) ps g.next }
 
--- of all names, from what was stored
-pub found : (b d ps : List ℕ) (hs : List Header) → parsed b ≡ gives hs → ps ≡ over d 0 (name_places 0 hs) → Found b ps 0 hs
-unfolding over
-found b d ps hs e w =
-    found_in hs b ps (drop (0 + length (name_places 0 hs)) d) 0 0 (omega arith) (sym (printed-read b hs (given-gives (headers_of b) 5 hs e)).bytes) w
+pub known : (b : List ℕ) (ps : List Span) → NamesIn b ps → Known b ps
+known b ps p =
+    let g = named b ps p in
+    let f = found_in g.hs b 0 (omega arith) (sym (printed-read b g.hs (given-gives (headers_of b) 5 g.hs g.is)).bytes) in
+    record {
+      inside = rw g.places at f.inside;
+      answer = rw g.is (ap (λ (ns : List (List ℕ)). gives (different ns)) (sym f.are ∙ ap (parts b) g.places));
+    }
 
-pub name-length : (b ps : List ℕ) (k : ℕ) → Inside b ps k → length (name_at b ps k) ≡ get_or ps (2 * k + 1) 0
-name-length b ps k h = simp (length-take, length-drop) (omega arith)
+pub name-length : (b : List ℕ) (p : Span) → Inside b p → length (part_in b p) ≡ p.len
+name-length b p h = simp (length-take, length-drop) (omega arith)
 
 -- One name after the other.
 
-names-next : (b ps : List ℕ) (k n : ℕ) → k < n → names_at b ps k (n - k) ≡ name_at b ps k ∷ names_at b ps (k + 1) (n - (k + 1))
-unfolding names_at
-names-next b ps k n h =
-    let z : n - k ≡ suc (n - (k + 1)) = omega arith in
-    ap (names_at b ps k) z
+pub next : (ps : List Span) (k : ℕ) → k < length ps → drop k ps ≡ get_or ps k nowhere ∷ drop (k + 1) ps
+next ps k h = rw (add-one, drop-cons ps k nowhere)
 
-names-end : (b ps : List ℕ) (k n : ℕ) → n ≤ k → names_at b ps k (n - k) ≡ []
-unfolding names_at
-names-end b ps k n h =
-    let z : n - k ≡ 0 = omega arith in
-    ap (names_at b ps k) z
+pub end : (ps : List Span) (k : ℕ) → length ps ≤ k → drop k ps ≡ []
+end ps k h = drop_of_length-le ps h
+
+-- what `&ps[i..]` holds
+pub from : (ps : List Span) (i : ℕ) → take (length ps - i) (drop i ps) ≡ drop i ps
+from ps i = take_all (length ps - i) (drop i ps) (simp length-drop (omega arith))
+
+pub from-inside : (b : List ℕ) (ps : List Span) (i : ℕ) → AllInside b ps → AllInside b (take (length ps - i) (drop i ps))
+from-inside b ps i h = rw (from ps i) (all_after i ps h)
+
+pub inside-at : (b : List ℕ) (ps : List Span) (k : ℕ) → AllInside b ps → k < length ps → Inside b (get_or ps k nowhere)
+inside-at b ps k i h = first _ _ (rw (next ps k h) at (all_after k ps i))
+  where
+    first : (p : Span) (qs : List Span) → AllInside b (p ∷ qs) → Inside b p
+    first p qs (i & is) = i
 
 pub in-next :
-    (x b ps : List ℕ) (k n : ℕ) → k < n
-    → is_in x (names_at b ps k (n - k)) ≡ same_bytes x (name_at b ps k) || is_in x (names_at b ps (k + 1) (n - (k + 1)))
+    (x b : List ℕ) (ps : List Span) (k : ℕ) → k < length ps
+    → is_in x (parts b (drop k ps)) ≡ same_bytes x (part_in b (get_or ps k nowhere)) || is_in x (parts b (drop (k + 1) ps))
 unfolding is_in
-in-next x b ps k n h = ap (is_in x) (names-next b ps k n h)
+in-next x b ps k h = ap (λ (qs : List Span). is_in x (parts b qs)) (next ps k h)
 
-pub in_end : (x b ps : List ℕ) (k n : ℕ) → n ≤ k → is_in x (names_at b ps k (n - k)) ≡ false
+pub in_end : (x b : List ℕ) (ps : List Span) (k : ℕ) → length ps ≤ k → is_in x (parts b (drop k ps)) ≡ false
 unfolding is_in
-in_end x b ps k n h = ap (is_in x) (names-end b ps k n h)
+in_end x b ps k h = ap (λ (qs : List Span). is_in x (parts b qs)) (end ps k h)
 
 pub differ-next :
-    (b ps : List ℕ) (k n : ℕ) → k < n
-    → different (names_at b ps k (n - k))
-    ≡ not (is_in (name_at b ps k) (names_at b ps (k + 1) (n - (k + 1)))) && different (names_at b ps (k + 1) (n - (k + 1)))
+    (b : List ℕ) (ps : List Span) (k : ℕ) → k < length ps
+    → different (parts b (drop k ps)) ≡ not (is_in (part_in b (get_or ps k nowhere)) (parts b (drop (k + 1) ps))) && different (parts b (drop (k + 1) ps))
 unfolding different
-differ-next b ps k n h = ap different (names-next b ps k n h)
+differ-next b ps k h = ap (λ (qs : List Span). different (parts b qs)) (next ps k h)
 
--- .. where it is known whether the name stands again behind its place
+pub differ-end : (b : List ℕ) (ps : List Span) (k : ℕ) → length ps ≤ k → different (parts b (drop k ps)) ≡ true
+unfolding different
+differ-end b ps k h = ap (λ (qs : List Span). different (parts b qs)) (end ps k h)
+
+-- .. where it is known whether the first name stands again behind it
 pub differ-told :
-    (b ps : List ℕ) (k n : ℕ) {t : Bool} → k < n → is_in (name_at b ps k) (names_at b ps (k + 1) (n - (k + 1))) ≡ t
-    → different (names_at b ps k (n - k)) ≡ not t && different (names_at b ps (k + 1) (n - (k + 1)))
-differ-told b ps k n h e = differ-next b ps k n h ∙ ap (λ (u : Bool). not u && different (names_at b ps (k + 1) (n - (k + 1)))) e
-
-pub differ-end : (b ps : List ℕ) (k n : ℕ) → n ≤ k → different (names_at b ps k (n - k)) ≡ true
-unfolding different
-differ-end b ps k n h = ap different (names-end b ps k n h)
-
--- what is known of n names whose numbers were stored
-pub record Known (b ps : List ℕ) (n : ℕ) : Type 0 where
-  pub inside : AllInside b ps n
-  pub answer : then (parsed b) (λ hs. gives (different (names hs))) ≡ gives (different (names_at b ps 0 (n - 0)))
-
-pub known : (b ps : List ℕ) (n : ℕ) → NamesIn b ps n → Known b ps n
-known b ps n p =
-    let w = p.kept in
-    let g = counted b n w.count in
-    let f = found b p.before ps g.hs g.is (w.stored g.hs g.is) in
-    record {
-      inside = λ k h. f.inside k (omega arith) (omega (arith, g.count));
-      answer =
-          rw g.is (ap (λ (ns : List (List ℕ)). gives (different ns)) (sym f.are ∙ ap (names_at b ps 0) (g.count ∙ sym (sub-zero n))));
-    }
-
--- where there is room for the block's n headers
-pub names-held : NamesHeld
-names-held b before ps r n f e room =
-    record {
-      before = before;
-      kept =
-          record {
-            count = e;
-            room = omega (arith, f.size, room);
-            stored =
-                λ hs p.
-                let c : gives (length hs) ≡ gives n = sym (ap (λ (o : Outcome (List Header)). then o (λ hs. gives (length hs))) p) ∙ e in
-                let l : length hs ≡ n = gives-once (length hs) n c in
-                f.stored hs p
-                ∙ ap (over before 0) (take_all (2 * (length before / 2)) (name_places 0 hs) (omega (arith, places-length hs 0)));
-          };
-    }
+    (b : List ℕ) (ps : List Span) (t : Bool) → 1 ≤ length ps
+    → is_in (part_in b (get_or ps 0 nowhere)) (parts b (take (length ps - 1) (drop 1 ps))) ≡ t
+    → different (parts b ps) ≡ not t && different (parts b (take (length ps - 1) (drop 1 ps)))
+differ-told b ps t h e =
+    let r : is_in (part_in b (get_or ps 0 nowhere)) (parts b (drop 1 ps)) ≡ t = rw (from ps 1) at e in
+    rw (from ps 1) (differ-next b ps 0 h ∙ ap (λ (u : Bool). not u && different (parts b (drop 1 ps))) r)

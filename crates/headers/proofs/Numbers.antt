@@ -6,7 +6,8 @@ use mathlib.Core.List.{List}
 use Rattle.std.proofs.Common.{Option, None, Some}
 use Rattle.octets.specs.Outcome.{Outcome, refused, gives, then, given}
 use Rattle.headers.specs.Block.{Header, headers_of}
-use Rattle.headers.specs.Lookup.{Part, place_in, lookup_of}
+use Rattle.octets.specs.declared.span.Span.{Span}
+use Rattle.headers.specs.Lookup.{place_in, lookup_of}
 use Rattle.headers.specs.Setting.{first_found, setting_of}
 use Rattle.headers.specs.Claims.{NumbersHold}
 
@@ -23,7 +24,7 @@ unfolding setting_of
 setting-five first second name n e = by (lookup_of first name) (lookup_of second name) (lookup-five first name n) (lookup-five second name n) e
   where
     by :
-        (f s : Outcome (Option Part)) → (f ≡ refused n → n ≡ 5) → (s ≡ refused n → n ≡ 5)
+        (f s : Outcome (Option Span)) → (f ≡ refused n → n ≡ 5) → (s ≡ refused n → n ≡ 5)
         → then f (λ f. then s (λ s. gives (first_found f s))) ≡ refused n → n ≡ 5
     by (refused m) s h k e = h cc
     by (gives p) (refused m) h k e = k cc

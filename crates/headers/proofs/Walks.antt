@@ -5,14 +5,17 @@ use Prim.{absurd}
 use mathlib.Core.Path.{◌≡◌, refl, sym, ap, ◌∙◌}
 use mathlib.Core.Bool.{Bool, true, false, not, ◌&&◌}
 use mathlib.Core.List.{List, [], ◌∷◌}
-use Rattle.std.proofs.Common.{Option, None, Some}
+use Rattle.std.proofs.Common.{Option, None, Some, Result, Ok, Err}
+use Rattle.std.specs.Result.{IsOk}
 use native.Mathlib.Omega.{arith}
 use lib.Dec.{eqb, ltb}
 use lib.ListN.{length, take, drop, length-take, length-drop, drop_of_length-le}
 use lib.Seq.{drop-drop}
 use borrow.Author.Tests.{eqb-true, eqb-false, ltb-true, ltb-false}
 use Rattle.octets.specs.Outcome.{Outcome, refused, gives, then, need, given}
+use Rattle.octets.specs.Refusal.{number_of}
 use Rattle.octets.specs.Scan.{run, other}
+use Rattle.octets.specs.declared.refusal.Refusal.{Refusal}
 use Rattle.octets.specs.Parts.{parted, before}
 use Rattle.octets.proofs.Outcomes.{then-then, then-gives}
 use Rattle.octets.proofs.Parting.{part-found, part_none}
@@ -120,9 +123,9 @@ pub header-parses : HeaderParses
 unfolding header_ends
 header-parses b i h = found-by b i (nul_from b i) h refl (nul_from b (nul_from b i + 1)) refl _ _ _ refl refl refl
 
--- .. by the code's answer r, which is q
-pub found_at : (b : List ℕ) (i : ℕ) (r q : HeaderPlace) → i < length b → header_outcome r ≡ header_ends b i → r ≡ q → HeaderFound b i (header_outcome q)
-found_at b i r q h e z = rw (sym e ∙ ap header_outcome z) at (header-parses b i h)
+-- .. by the code's answer
+pub found_at : (b : List ℕ) (i : ℕ) (o : Outcome HeaderPlace) → i < length b → o ≡ header_ends b i → HeaderFound b i o
+found_at b i o h e = rw (sym e) at (header-parses b i h)
 
 -- no header is left
 pub no_header : (b : List ℕ) (i : ℕ) → length b ≤ i → parsed (drop i b) ≡ gives []
@@ -131,9 +134,9 @@ no_header b i h = rw (drop_of_length-le b h)
 
 -- what is made of the headers from i on, where the first of them has been found
 pub past-header :
-    {A : Type 0} (b : List ℕ) (i n v : ℕ) (f : List Header → Outcome A) → HeaderFound b i (gives (record { name_end = n; value_end = v }))
-    → then (parsed (drop i b)) f ≡ then (parsed (drop (v + 1) b)) (λ hs. f (header_in b i n v ∷ hs))
-past-header b i n v f r = rw (← r.answer) (then-then (parsed (drop (v + 1) b)) (λ hs. gives (header_in b i n v ∷ hs)) f)
+    {A : Type 0} (b : List ℕ) (i : ℕ) (e : HeaderPlace) (f : List Header → Outcome A) → HeaderFound b i (gives e)
+    → then (parsed (drop i b)) f ≡ then (parsed (drop (e.value_end + 1) b)) (λ hs. f (header_in b i e.name_end e.value_end ∷ hs))
+past-header b i e f r = rw (← r.answer) (then-then (parsed (drop (e.value_end + 1) b)) (λ hs. gives (header_in b i e.name_end e.value_end ∷ hs)) f)
 
 -- headers hs from i on: the one that was found, and those behind it
 pub record Behind (b : List ℕ) (i n v : ℕ) (hs : List Header) : Type 0 where
@@ -142,10 +145,10 @@ pub record Behind (b : List ℕ) (i n v : ℕ) (hs : List Header) : Type 0 where
   pub is : hs ≡ header_in b i n v ∷ gs
 
 module _ (b : List ℕ) (i : ℕ) (hs : List Header) (r : parsed (drop i b) ≡ gives hs) where
-  pub behind-header : (n v : ℕ) → HeaderFound b i (gives (record { name_end = n; value_end = v })) → Behind b i n v hs
-  behind-header n v h =
-      let g = then-gives (parsed (drop (v + 1) b)) (λ gs. gives (header_in b i n v ∷ gs)) hs (h.answer ∙ r) in
-      let e : gives (header_in b i n v ∷ g.it) ≡ gives hs = g.next in
+  pub behind-header : (e : HeaderPlace) → HeaderFound b i (gives e) → Behind b i e.name_end e.value_end hs
+  behind-header e h =
+      let g = then-gives (parsed (drop (e.value_end + 1) b)) (λ gs. gives (header_in b i e.name_end e.value_end ∷ gs)) hs (h.answer ∙ r) in
+      let q : gives (header_in b i e.name_end e.value_end ∷ g.it) ≡ gives hs = g.next in
       record { gs = g.it; rest = g.first; is = cc }
 
   pub never-refused : (n : ℕ) → HeaderFound b i (refused n) → ⊥
@@ -153,6 +156,10 @@ module _ (b : List ℕ) (i : ℕ) (hs : List Header) (r : parsed (drop i b) ≡ 
       let e : refused n ≡ gives hs = h.answer ∙ r in
       let z : ◌≡◌ {A = ℕ} 0 1 = cc in
       omega arith
+
+  pub is-found : (r : Result HeaderPlace Refusal) → HeaderFound b i (header_outcome r) → IsOk r
+  is-found (Ok e) h = refl
+  is-found (Err e) h = absurd (never-refused (number_of e) h)
 
   pub none-behind : length b ≤ i → hs ≡ []
   none-behind h =

@@ -1,14 +1,13 @@
 -- A block: its headers, how they are written, and how they are parted again.
 -- Assumes nothing.
-use Rattle.std.specs.Prelude.{ℕ, ◌+◌, ◌-◌, ◌<◌, ◌≡◌, Bool, true, false, cond, not, ◌&&◌, List, [], ◌∷◌, ◌++◌, map, eqb, ltb, length, take, drop, Option, None, Some}
+use Rattle.std.specs.Prelude.{ℕ, ◌+◌, ◌-◌, ◌<◌, ◌≡◌, Bool, true, false, cond, not, ◌&&◌, List, [], ◌∷◌, ◌++◌, map, eqb, ltb, length, take, drop, Option, None, Some, Result}
 use Rattle.octets.specs.Outcome.{Outcome, refused, gives, then, need, given}
 use Rattle.octets.specs.Lists.{NoNul, is_nil}
 use Rattle.octets.specs.Parts.{parted}
 use Rattle.octets.specs.Scan.{run, other}
+use Rattle.octets.specs.Refusal.{outcome}
+use Rattle.octets.specs.declared.refusal.Refusal.{Refusal}
 use Rattle.headers.specs.declared.block.HeaderPlace.{HeaderPlace}
-use Rattle.headers.specs.declared.block.HeaderPlace.TheVariants.{At, Refused}
-use Rattle.headers.specs.declared.block.Count.{Count}
-use Rattle.headers.specs.declared.block.Count.TheVariants.{Headers, Refused as CountRefused}
 
 -- "name, NUL, value, NUL"
 pub record Header : Type 0 where
@@ -67,38 +66,32 @@ well_formed s = is_some (headers_of s)
 abbrev pub nul_from : List ℕ → ℕ → ℕ
 nul_from b i = i + run (other 0) (drop i b)
 
--- where a header's name ends, and where its value, behind the NUL after the name, ends
-pub record Ends : Type 0 where
-  pub name_end : ℕ
-  pub value_end : ℕ
-
 -- the header at i of b: its name ends at the first NUL, its value at the next. 5 where the name is empty or one of the NULs is missing
-unfoldable pub header_ends : List ℕ → ℕ → Outcome Ends
+unfoldable pub header_ends : List ℕ → ℕ → Outcome HeaderPlace
 header_ends b i =
     need (not (eqb (nul_from b i) i) && ltb (nul_from b i) (length b)) 5
     (need (ltb (nul_from b (nul_from b i + 1)) (length b)) 5
     (gives (record { name_end = nul_from b i; value_end = nul_from b (nul_from b i + 1) })))
 
 -- what the code's answer says
-abbrev pub header_outcome : HeaderPlace → Outcome Ends
-header_outcome (At n v) = gives (record { name_end = n; value_end = v })
-header_outcome (Refused k) = refused k
+abbrev pub header_outcome : Result HeaderPlace Refusal → Outcome HeaderPlace
+header_outcome = outcome (λ h. h)
 
 -- the header at i of b whose name ends at n and whose value at v
 abbrev pub header_in : List ℕ → ℕ → ℕ → ℕ → Header
 header_in b i n v = record { name = take (n - i) (drop i b); value = take (v - (n + 1)) (drop (n + 1) b) }
 
 -- the headers from i on, by the ends of the first of them
-abbrev pub headers_by : List ℕ → ℕ → Outcome Ends → Outcome (List Header)
+abbrev pub headers_by : List ℕ → ℕ → Outcome HeaderPlace → Outcome (List Header)
 headers_by b i (gives e) = then (parsed (drop (e.value_end + 1) b)) (λ hs. gives (header_in b i e.name_end e.value_end ∷ hs))
 headers_by b i (refused k) = refused k
 
-abbrev pub InOrder : List ℕ → ℕ → Outcome Ends → Type 0
+abbrev pub InOrder : List ℕ → ℕ → Outcome HeaderPlace → Type 0
 InOrder b i (gives e) = (i < e.name_end) × (e.name_end < e.value_end) × (e.value_end < length b)
 InOrder b i (refused k) = Unit {0}
 
 -- .. and where these ends lie
-pub record HeaderFound (b : List ℕ) (i : ℕ) (o : Outcome Ends) : Type 0 where
+pub record HeaderFound (b : List ℕ) (i : ℕ) (o : Outcome HeaderPlace) : Type 0 where
   pub answer : headers_by b i o ≡ parsed (drop i b)
   pub order : InOrder b i o
 
@@ -106,6 +99,5 @@ pub record HeaderFound (b : List ℕ) (i : ℕ) (o : Outcome Ends) : Type 0 wher
 abbrev pub count_of : List ℕ → Outcome ℕ
 count_of b = then (parsed b) (λ hs. gives (length hs))
 
-abbrev pub count_outcome : Count → Outcome ℕ
-count_outcome (Headers n) = gives n
-count_outcome (CountRefused n) = refused n
+abbrev pub count_outcome : Result ℕ Refusal → Outcome ℕ
+count_outcome = outcome (λ n. n)

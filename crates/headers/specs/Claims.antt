@@ -1,20 +1,22 @@
 -- What is claimed of blocks of headers and of looking names up in them.
 -- Assumes nothing.
-use Rattle.std.specs.Prelude.{ℕ, ◌+◌, ◌*◌, ◌≤◌, ◌<◌, ◌≡◌, true, ◌↔◌, List, length, Option, Some}
+use Rattle.std.specs.Prelude.{ℕ, ◌+◌, ◌*◌, ◌≤◌, ◌<◌, ◌≡◌, true, ◌↔◌, List, length, take, Option, Some, Result}
 use Rattle.octets.specs.Outcome.{refused, gives}
 use Rattle.octets.specs.Lists.{All, different}
 use Rattle.headers.specs.Block.{Header, Proper, printed, parsed, well_formed, count_of, header_ends, HeaderFound}
-use Rattle.headers.specs.Lookup.{Part, part_option, value_in, lookup_of}
-use Rattle.headers.specs.Setting.{in_first, in_second, setting_of}
+use Rattle.octets.specs.declared.refusal.Refusal.{Refusal}
+use Rattle.octets.specs.declared.span.Span.{Span}
+use Rattle.headers.specs.Lookup.{part_option, value_in, lookup_of}
+use Rattle.headers.specs.Setting.{setting_of}
+use Rattle.headers.specs.declared.setting.Held.TheVariants.{First, Second}
 use Rattle.headers.specs.Names.{NamesFound, NamesIn}
 use Rattle.headers.specs.Sizes.{sizes_of}
-use Rattle.headers.specs.declared.block.Count.{Count}
 
 -- "Looking up a name hands back the value as that part of the caller's block": the bytes at the place that is given are the value of the first
 -- header with that name, and there is a place exactly where there is such a header
 abbrev pub LookupFindsValue : Type 0
 LookupFindsValue =
-    (block name : List ℕ) (hs : List Header) (o : Option Part) → parsed block ≡ gives hs → lookup_of block name ≡ gives o
+    (block name : List ℕ) (hs : List Header) (o : Option Span) → parsed block ≡ gives hs → lookup_of block name ≡ gives o
     → part_option block o ≡ value_in name hs
 
 -- the headers of a block
@@ -50,17 +52,17 @@ pub record PrintedParsed : Type 0 where
 abbrev pub HeaderParses : Type 0
 HeaderParses = (block : List ℕ) (i : ℕ) → i < length block → HeaderFound block i (header_ends block i)
 
--- a list with room for the names of a block's n headers has them all after they were stored
+-- a list with room for the places of a block's n names has them all in its front after they were stored
 abbrev pub NamesHeld : Type 0
 NamesHeld =
-    (block before after : List ℕ) (r : Count) (n : ℕ) → NamesFound block before after r → count_of block ≡ gives n → 2 * n ≤ length before
-    → NamesIn block after n
+    (block : List ℕ) (before after : List Span) (r : Result ℕ Refusal) (n : ℕ) → NamesFound block before after r → count_of block ≡ gives n
+    → n ≤ length before → NamesIn block (take n after)
 
 -- a place that is given lies in its block
 pub record PlacesInside : Type 0 where
-  pub of_one : (block name : List ℕ) (p : Part) → lookup_of block name ≡ gives (Some p) → p.start + p.len ≤ length block
-  pub of_first : (first second name : List ℕ) (p : Part) → setting_of first second name ≡ gives (in_first p) → p.start + p.len ≤ length first
-  pub of_second : (first second name : List ℕ) (p : Part) → setting_of first second name ≡ gives (in_second p) → p.start + p.len ≤ length second
+  pub of_one : (block name : List ℕ) (p : Span) → lookup_of block name ≡ gives (Some p) → p.start + p.len ≤ length block
+  pub of_first : (first second name : List ℕ) (p : Span) → setting_of first second name ≡ gives (Some (First p)) → p.start + p.len ≤ length first
+  pub of_second : (first second name : List ℕ) (p : Span) → setting_of first second name ≡ gives (Some (Second p)) → p.start + p.len ≤ length second
 
 -- no other number is given: "Only a malformed block, either one of two, is refused, with 5"
 pub record NumbersHold : Type 0 where

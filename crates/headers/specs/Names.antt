@@ -1,55 +1,70 @@
--- The names of a block by numbers: two for each header, where its name starts and how long it is.
+-- The names of a block by their places, where each starts and how long it is.
 -- Assumes nothing.
-use Rattle.std.specs.Prelude.{ℕ, zero, suc, ◌+◌, ◌*◌, ◌/◌, ◌≤◌, ◌<◌, ◌≡◌, cond, List, [], ◌∷◌, ltb, length, take, drop, get_or, set}
-use Rattle.octets.specs.Outcome.{gives}
-use Rattle.octets.specs.Copy.{over}
+use Rattle.std.specs.Prelude.{ℕ, ◌+◌, ◌≤◌, ◌≡◌, ◌⊎◌, cond, List, [], ◌∷◌, ◌++◌, ltb, length, take, drop, set, Result}
+use Rattle.std.specs.Coded.{Coded, Coded-set, code_by, coded_ℕ, coded_list, coded×, coded⊎}
+use mathlib.Core.Logic.{inl, inr}
+use mathlib.Core.Path.{refl}
+use Rattle.octets.specs.Outcome.{Outcome, refused, gives, then}
+use Rattle.octets.specs.Lists.{All}
+use Rattle.octets.specs.declared.refusal.Refusal.{Refusal}
+use Rattle.octets.specs.declared.span.Span.{Span}
 use Rattle.headers.specs.Block.{Header, parsed, count_of, count_outcome}
-use Rattle.headers.specs.declared.block.Count.{Count}
 
--- the numbers of headers that are printed from i on
-unfoldable pub name_places : ℕ → List Header → List ℕ
+-- where each name of the headers stands, which are printed from i on
+unfoldable pub name_places : ℕ → List Header → List Span
 name_places i [] = []
-name_places i (h ∷ hs) = i ∷ (length h.name ∷ name_places (i + length h.name + 1 + length h.value + 1) hs)
+name_places i (h ∷ hs) = record { start = i; len = length h.name } ∷ name_places (i + length h.name + 1 + length h.value + 1) hs
 
--- the list d with the two numbers of the name n in their places, if it has them
-abbrev pub with_pair : List ℕ → ℕ → ℕ → ℕ → List ℕ
-with_pair d n start len = cond (ltb n (length d / 2)) (set (set d (2 * n) start) (2 * n + 1) len) d
+-- .. of a block
+unfoldable pub places_of : List ℕ → Outcome (List Span)
+places_of b = then (parsed b) (λ hs. gives (name_places 0 hs))
 
--- the answer is the count of headers, or 5; of a well formed block the list has the numbers of as many headers as it has room for, over its
--- front, and of a malformed one it may have any
-pub record NamesFound (b before after : List ℕ) (r : Count) : Type 0 where
+-- the block is well formed, and its names stand at these places
+abbrev pub NamesIn : List ℕ → List Span → Type 0
+NamesIn b ps = places_of b ≡ gives ps
+
+-- the list d with the place p as its entry n, if it has that entry
+abbrev pub with_place : List Span → ℕ → Span → List Span
+with_place d n p = cond (ltb n (length d)) (set d n p) d
+
+-- the answer is the count of headers, or 5; of a well formed block the list has the places of as many names as it has room for, over its front,
+-- and of a malformed one it may have any
+pub record NamesFound (b : List ℕ) (before after : List Span) (r : Result ℕ Refusal) : Type 0 where
   pub count : count_outcome r ≡ count_of b
   pub size : length after ≡ length before
-  pub stored : (hs : List Header) → parsed b ≡ gives hs → after ≡ over before 0 (take (2 * (length before / 2)) (name_places 0 hs))
+  pub stored : (ps : List Span) → NamesIn b ps → after ≡ take (length before) ps ++ drop (length ps) before
 
--- the list after is the list before with the numbers of all of the block's headers over its front
-abbrev pub NamesStored : List ℕ → List ℕ → List ℕ → Type 0
-NamesStored b before after = (hs : List Header) → parsed b ≡ gives hs → after ≡ over before 0 (name_places 0 hs)
+-- the place lies in the block
+abbrev pub Inside : List ℕ → Span → Type 0
+Inside b p = p.start + p.len ≤ length b
 
--- the block has n headers, whose numbers were stored in the list before
-pub record NamesKept (b before after : List ℕ) (n : ℕ) : Type 0 where
-  pub count : count_of b ≡ gives n
-  pub room : 2 * n ≤ length after
-  pub stored : NamesStored b before after
+-- .. and so does each of the places
+abbrev pub AllInside : List ℕ → List Span → Type 0
+AllInside b ps = All (Inside b) ps
 
--- .. whatever it was before
-pub record NamesIn (b ps : List ℕ) (n : ℕ) : Type 0 where
-  pub before : List ℕ
-  pub kept : NamesKept b before ps n
+-- what a list is said to have behind its end
+abbrev pub nowhere : Span
+nowhere = record { start = 0; len = 0 }
 
--- the name whose numbers stand from 2 * k on
-abbrev pub name_at : List ℕ → List ℕ → ℕ → List ℕ
-name_at b ps k = take (get_or ps (2 * k + 1) 0) (drop (get_or ps (2 * k) 0) b)
+-- For the ghost field of Names: there is one proof of NamesIn at most.
 
--- n names, the first with the number k
-unfoldable pub names_at : List ℕ → List ℕ → ℕ → ℕ → List (List ℕ)
-names_at b ps k zero = []
-names_at b ps k (suc n) = name_at b ps k ∷ names_at b ps (k + 1) n
+abbrev span_coded : Coded Span
+span_coded = code_by (ℕ × ℕ) (coded× coded_ℕ coded_ℕ) (λ p. (p.start, p.len)) (λ q. record { start = q.0; len = q.1 }) (λ _. refl)
 
--- the name with the number k lies in the block
-abbrev pub Inside : List ℕ → List ℕ → ℕ → Type 0
-Inside b ps k = get_or ps (2 * k) 0 + get_or ps (2 * k + 1) 0 ≤ length b
+abbrev split : Outcome (List Span) → ℕ ⊎ List Span
+split (refused n) = inl n
+split (gives ps) = inr ps
 
--- .. and so for the first n
-abbrev pub AllInside : List ℕ → List ℕ → ℕ → Type 0
-AllInside b ps n = (k : ℕ) → k < n → Inside b ps k
+abbrev join : ℕ ⊎ List Span → Outcome (List Span)
+join (inl n) = refused n
+join (inr ps) = gives ps
+
+join-split : (o : Outcome (List Span)) → join (split o) ≡ o
+join-split (refused n) = refl
+join-split (gives ps) = refl
+
+abbrev places_coded : Coded (Outcome (List Span))
+places_coded = code_by (ℕ ⊎ List Span) (coded⊎ coded_ℕ (coded_list span_coded)) split join join-split
+
+pub NamesIn-prop : (b : List ℕ) (ps : List Span) → IsProp (NamesIn b ps)
+NamesIn-prop b ps = Coded-set places_coded (places_of b) (gives ps)

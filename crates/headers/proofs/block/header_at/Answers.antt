@@ -1,19 +1,16 @@
+use mathlib.Core.Logic.{⊎_elim}
 use Rattle.octets.proofs.Tests.{tests}
 use Rattle.headers.specs.Block.{header_ends}
 use Rattle.headers.proofs.block.header_at.Goals as goal
 
-pub returns-then-n-at : goal.returns-then-n-at
+pub returns-then-name_end-at : goal.returns-then-name_end-at
 unfolding header_ends
-returns-then-n-at c = rw (← c.find-n.ensures) (search tests)
+returns-then-name_end-at c = rw (← c.find-name_end.ensures) (⊎_elim (λ w. search tests) (λ w. search tests) c.then-name_end-at.branch-raw)
 
-pub returns-then-block-n : goal.returns-then-block-n
+pub returns-then-block-value_end : goal.returns-then-block-value_end
 unfolding header_ends
-returns-then-block-n c = rw (← c.find-n.ensures) (search tests)
-
-pub returns-then-block-v : goal.returns-then-block-v
-unfolding header_ends
-returns-then-block-v c = rw (← c.find-n.ensures) (rw (← c.find_soon-v.ensures) (search tests))
+returns-then-block-value_end c = rw (← c.find-name_end.ensures) (rw (← c.find_soon-value_end.ensures) (search tests))
 
 pub returns : goal.returns
 unfolding header_ends
-returns c = rw (← c.find-n.ensures) (rw (← c.find_soon-v.ensures) (search tests))
+returns c = rw (← c.find-name_end.ensures) (rw (← c.find_soon-value_end.ensures) (search tests))
