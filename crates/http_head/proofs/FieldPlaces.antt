@@ -186,3 +186,9 @@ module _ (rule : ℕ → Bool) (head : List ℕ) (before after : List Spans) whe
       by : (o : Outcome (List Field)) → ◌≡◌ {A = Outcome ℕ} (refused (number_of e)) (then o (λ fs. gives (length fs))) → refused (number_of e) ≡ o
       by (refused m) x = cc
       by (gives fs) x = cc
+
+  -- the places that were stored
+  pub stored-places : (n : ℕ) → Stored rule head before after (Ok n) → take n after ≡ places_of head
+  stored-places n s =
+      let p : length (places_of head) ≡ n = places-length (line_run head + 2) (lines_of head).others ∙ sym (stored-stand n s).count in
+      ap (take n) s.places ∙ take_at (places_of head) (drop (length (places_of head)) before) n p

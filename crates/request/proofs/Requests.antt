@@ -18,9 +18,12 @@ use Rattle.octets.proofs.Outcomes.{gives-once, then-gives}
 use Rattle.octets.proofs.Refusals.{Refuses, with_number, not_refused, number-of, refuses-within, refuses-only, refuses-then, refuses-need, refuses-given}
 use Rattle.http_head.specs.Lines.{lines_of, line_run}
 use Rattle.http_head.specs.RequestLine.{FirstLine, request_line_of, version_text, line_places}
-use Rattle.http_head.specs.Fields.{Field, fields_of, places_of, fields_at, Stored}
+use Rattle.octets.specs.Refusal.{number_of}
+use Rattle.octets.specs.declared.refusal.Refusal.{Refusal}
+use Rattle.std.proofs.Common.{Ok, Err}
+use Rattle.http_head.specs.Fields.{Field, fields_of, places_of, with_front, part_at, fields_at, Stored}
+use Rattle.http_head.specs.declared.fields.Field.{Field as Spans}
 use Rattle.http_head.specs.Claims.{LineStands, FieldsStand}
-use Rattle.http_head.specs.declared.fields.Fields.TheVariants.{Count}
 use Rattle.http_head.proofs.Claims as Http
 use Rattle.http_head.proofs.Claims.{first-line-stands, line-is-made, lines-told, fields_obey, fields_told}
 use Rattle.targets.specs.Escape.{decoded}
@@ -31,14 +34,13 @@ use Rattle.targets.proofs.Claims.{targets-obey, targets-told}
 use Rattle.request.specs.Named.{lowered, values_of}
 use Rattle.request.specs.Request.{host_right, stated_by, content_of, rules_of, Request, request_of}
 use Rattle.request.specs.Rules.{found_of}
-use Rattle.request.specs.RequestRead.{target_in, Placed, placed_in, RequestRead, line_in, path_in, part_if, LineKnown, FieldsKnown}
+use Rattle.request.specs.RequestRead.{target_in, placed_in, RequestRead, line_in, path_in, part_if, PartInside, LineKnown, FieldsKnown}
 use Rattle.request.specs.Claims.{Obeys, RequestStands, request_numbers, NumbersHold}
-use Rattle.request.specs.declared.rules.Found.{Found}
 use Rattle.request.specs.declared.read.LinePlaces.{LinePlaces}
 use Rattle.request.specs.declared.read.FieldPlaces.{FieldPlaces}
-use Rattle.request.specs.declared.read.Reading.TheVariants.{Request as ReadRequest, Refused}
+use Rattle.request.specs.declared.read.RequestPlaces.{RequestPlaces}
 use Rattle.request.proofs.RuleSteps.{types}
-use Rattle.request.proofs.RequestSteps.{refused-so, minor-text, found-stored}
+use Rattle.request.proofs.RequestSteps.{refused-so, minor-text, stored-are}
 
 -- WHAT AN ACCEPTED REQUEST OBEYS
 
@@ -107,12 +109,12 @@ unfolding over
 front-inside d w = simp length-append (omega arith)
 
 pub refuses :
-    (head places places' path path' : List ℕ) (n : ℕ) → RequestRead head places places' path path' (Refused n)
-    → refused n ≡ request_of head
-refuses head places places' path path' n r = sym (refused-so (request_of head) (placed_in head) n r.answer)
+    (head : List ℕ) (places places' : List Spans) (path path' : List ℕ) (e : Refusal) → RequestRead head places places' path path' (Err e)
+    → refused (number_of e) ≡ request_of head
+refuses head places places' path path' e r = sym (refused-so (request_of head) (placed_in head) (number_of e) r.answer)
 
 -- of a request q, whose parts' places are l and f
-module _ (head places places' path path' : List ℕ) (q : Request) (gave : request_of head ≡ gives q) where
+module _ (head : List ℕ) (places places' : List Spans) (path path' : List ℕ) (q : Request) (gave : request_of head ≡ gives q) where
   o : Obeys head q
   o = obeys head q gave
 
@@ -131,21 +133,21 @@ module _ (head places places' path path' : List ℕ) (q : Request) (gave : reque
   version-is : version_text l.minor ≡ q.first.version
   version-is = minor-text q.first.version o.line.served
 
-  stands : LineStands line l.method l.target l.len l.minor
+  stands : LineStands line (record { method_len = l.method; target = l.target; minor = l.minor })
   stands =
-      lines-told.accepts line l.method l.target l.len l.minor
+      lines-told.accepts line (record { method_len = l.method; target = l.target; minor = l.minor })
       (rw version-is (sym (ap (λ (x : Outcome FirstLine). then x (λ y. gives (line_places y))) line_read)))
 
   method_inside : l.method ≤ length head
   method_inside = omega (arith, stands.method_inside, length-take (line_run head) head)
 
-  target_inside : l.target + l.len ≤ length head
+  target_inside : l.target.start + l.target.len ≤ length head
   target_inside = omega (arith, stands.target_inside, length-take (line_run head) head)
 
   line-is : line_in head l ≡ q.first
   line-is =
       let e : gives (line_in head l) ≡ gives q.first =
-      sym (rw (part-take head (line_run head) 0 l.method (omega (arith, stands.method_inside)), part-take head (line_run head) l.target l.len stands.target_inside))
+      sym (rw (part-take head (line_run head) 0 l.method (omega (arith, stands.method_inside)), part-take head (line_run head) l.target.start l.target.len stands.target_inside))
       ∙ stands.answer ∙ line_read in
       gives-once _ q.first e
 
@@ -161,7 +163,7 @@ module _ (head places places' path path' : List ℕ) (q : Request) (gave : reque
       targets-told.accepts q.first.target q.first.target (over q.first.target 0 (written q.first.target)) l.path (length o.target.path)
       (omega arith)
       (record {
-        answer = sym (ap (λ (x : Outcome Target). then x (λ y. gives (record { path = length (path_of q.first.target); decoded = length y.path }))) o.target_read);
+        answer = sym (ap (λ (x : Outcome Target). then x (λ y. gives (record { path_len = length (path_of q.first.target); decoded_len = length y.path }))) o.target_read);
         buffer = refl;
       })
 
@@ -189,25 +191,26 @@ module _ (head places places' path path' : List ℕ) (q : Request) (gave : reque
     path_is : path_in path' l ≡ q.path
     path_is = ap (take (length q.path)) buffer-is ∙ front-is path q.path
 
-    module _ (numbers : places' ≡ over places 0 (places_of head)) where
-      stored : Stored is_name head places places' (Count f.count)
-      stored = record { answer = sym (ap (λ (x : Outcome (List Field)). then x (λ fs. gives (length fs))) o.fields_read); numbers = numbers }
+    module _ (front : places' ≡ with_front places (places_of head)) where
+      stored : Stored is_name head places places' (Ok f.count)
+      stored = record { answer = sym (ap (λ (x : Outcome (List Field)). then x (λ fs. gives (length fs))) o.fields_read); places = front }
 
       stand : FieldsStand is_name head places' f.count
       stand = fields_told.accepts is_name head places places' f.count stored
 
-      fields-are : fields_at head places' 0 f.count ≡ q.fields
+      fields-are : fields_at head (take f.count places') ≡ q.fields
       fields-are = gives-once _ q.fields (stand.answer ∙ o.fields_read)
 
       fields-known : FieldsKnown head places' f
       fields-known =
-          let t = types head places' f.count stand.inside refl in
-          let e : found_of (bytes "content-type") head places' f.count ≡ found_of (bytes "content-type") head (places_of head) f.count =
-          found-stored head places places' f.count stored (bytes "content-type") in
+          let t = types head (take f.count places') stand.inside refl in
+          let e : found_of (bytes "content-type") head (take f.count places') ≡ found_of (bytes "content-type") head (places_of head) =
+          ap (found_of (bytes "content-type") head) (stored-are head places places' f.count stored) in
           record {
             few = stand.few;
+            room = stand.room;
             inside = stand.inside;
-            type_is = t.first_is ∙ ap (λ (r : Found). part_if (ltb 0 r.count) head r.start r.len) e;
+            type_is = t.first_is ∙ ap (λ r. part_if head r.first) e;
             type_inside = rw e at t.inside;
           }
 
@@ -225,14 +228,16 @@ module _ (head places places' path path' : List ℕ) (q : Request) (gave : reque
           same x y z = rw (x, y, z)
 
 pub accepts :
-    (head places places' path path' : List ℕ) (at : LinePlaces) (fields : FieldPlaces)
-    → RequestRead head places places' path path' (ReadRequest at fields) → RequestStands head places' path' at fields
-accepts head places places' path path' at fields r =
-    let g = then-gives (request_of head) (λ q. gives (placed_in head q)) (record { line = at; fields = fields }) (sym r.answer) in
-    let e : placed_in head g.it ≡ record { line = at; fields = fields } = gives-once _ (record { line = at; fields = fields }) g.next in
-    told-by g.it g.first at fields (ap (λ (p : Placed). p.line) e) (ap (λ (p : Placed). p.fields) e) r.stored.1 r.stored.0
+    (head : List ℕ) (places places' : List Spans) (path path' : List ℕ) (r : RequestPlaces)
+    → RequestRead head places places' path path' (Ok r) → RequestStands head places' path' r.line r.fields
+accepts head places places' path path' at r =
+    let g = then-gives (request_of head) (λ q. gives (placed_in head q)) at (sym r.answer) in
+    let e : placed_in head g.it ≡ at = gives-once _ at g.next in
+    told-by g.it g.first at e r.stored.1 r.stored.0
   where
     told-by :
-        (q : Request) → request_of head ≡ gives q → (at : LinePlaces) (fields : FieldPlaces) → (placed_in head q).line ≡ at → (placed_in head q).fields ≡ fields
-        → path' ≡ over path 0 (decoded (path_of (target_in head at))) → places' ≡ over places 0 (places_of head) → RequestStands head places' path' at fields
-    told-by q gave at fields a b buffer numbers = rw (← a, ← b) (request-stands head places places' path path' q gave (rw (← a) at buffer) numbers)
+        (q : Request) → request_of head ≡ gives q → (at : RequestPlaces) → placed_in head q ≡ at
+        → path' ≡ over path 0 (decoded (path_of (target_in head at.line))) → places' ≡ with_front places (places_of head)
+        → RequestStands head places' path' at.line at.fields
+    told-by q gave at a buffer front =
+        rw (← a) (request-stands head places places' path path' q gave (rw (← a) at buffer) front)

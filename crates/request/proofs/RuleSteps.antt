@@ -5,7 +5,7 @@ use Prim.{absurd}
 use mathlib.Core.Path.{◌≡◌, refl, sym, ap, ◌∙◌}
 use mathlib.Core.Bool.{Bool, true, false}
 use mathlib.Core.List.{List, [], ◌∷◌, map}
-use Rattle.std.proofs.Common.{Some}
+use Rattle.std.proofs.Common.{None, Some}
 use native.Mathlib.Omega.{arith}
 use lib.Dec.{eqb, leb, ltb}
 use lib.ListN.{length, take, drop}
@@ -15,7 +15,9 @@ use Rattle.octets.specs.Outcome.{Outcome, refused, gives, then, need, given}
 use Rattle.octets.specs.Compare.{same_bytes, lower_of}
 use Rattle.octets.specs.Decimal.{number_of}
 use Rattle.http_head.specs.RequestLine.{version_text}
-use Rattle.http_head.specs.Fields.{Field, fields_at, AllInside}
+use Rattle.octets.specs.declared.span.Span.{Span}
+use Rattle.http_head.specs.Fields.{Field, part_at, fields_at, AllInside}
+use Rattle.http_head.specs.declared.fields.Field.{Field as Spans}
 use Rattle.request.specs.Named.{lowered, values_of}
 use Rattle.request.specs.Request.{host_right, stated_by, content_of, rules_of}
 use Rattle.request.specs.Rules.{found_of, judged, judged_of}
@@ -25,26 +27,26 @@ use Rattle.request.proofs.NamedFields.{FoundIn, found_in}
 
 -- The names that the rules ask for have no upper case.
 
-module _ (head ps : List ℕ) (n : ℕ) (i : AllInside head ps n) {r : Found} where
+module _ (head : List ℕ) (ps : List Spans) (i : AllInside head ps) {r : Found} where
   in-lower :
-      (name : List ℕ) → map lower_of name ≡ name → r ≡ found_of name head ps n → FoundIn head (values_of name (lowered (fields_at head ps 0 n))) r
-  in-lower name e f = rw f (rw e at (found_in name head ps n i))
+      (name : List ℕ) → map lower_of name ≡ name → r ≡ found_of name head ps → FoundIn head (values_of name (lowered (fields_at head ps))) r
+  in-lower name e f = rw f (rw e at (found_in head name ps i))
 
-  pub hosts : r ≡ found_of (bytes "host") head ps n → FoundIn head (values_of (bytes "host") (lowered (fields_at head ps 0 n))) r
+  pub hosts : r ≡ found_of (bytes "host") head ps → FoundIn head (values_of (bytes "host") (lowered (fields_at head ps))) r
   unfolding lower_of
   hosts = in-lower (bytes "host") refl
 
   pub lengths :
-      r ≡ found_of (bytes "content-length") head ps n → FoundIn head (values_of (bytes "content-length") (lowered (fields_at head ps 0 n))) r
+      r ≡ found_of (bytes "content-length") head ps → FoundIn head (values_of (bytes "content-length") (lowered (fields_at head ps))) r
   unfolding lower_of
   lengths = in-lower (bytes "content-length") refl
 
-  pub types : r ≡ found_of (bytes "content-type") head ps n → FoundIn head (values_of (bytes "content-type") (lowered (fields_at head ps 0 n))) r
+  pub types : r ≡ found_of (bytes "content-type") head ps → FoundIn head (values_of (bytes "content-type") (lowered (fields_at head ps))) r
   unfolding lower_of
   types = in-lower (bytes "content-type") refl
 
   pub codings :
-      r ≡ found_of (bytes "transfer-encoding") head ps n → FoundIn head (values_of (bytes "transfer-encoding") (lowered (fields_at head ps 0 n))) r
+      r ≡ found_of (bytes "transfer-encoding") head ps → FoundIn head (values_of (bytes "transfer-encoding") (lowered (fields_at head ps))) r
   unfolding lower_of
   codings = in-lower (bytes "transfer-encoding") refl
 
@@ -70,25 +72,26 @@ module _ (fs : List Field) {head : List ℕ} {r : Found} (f : FoundIn head (valu
 -- The stated body length.
 
 module _ {head : List ℕ} {r : Found} where
-  pub states-none : (vs : List (List ℕ)) → FoundIn head vs r → r.count ≡ 0 → stated_by vs ≡ gives 0
+  pub states-none : (vs : List (List ℕ)) → FoundIn head vs r → r.first ≡ None → stated_by vs ≡ gives 0
   states-none [] f z = refl
-  states-none (v ∷ vs) f z = absurd (omega (arith, f.count_is))
+  states-none (v ∷ vs) f z = absurd (let e : Some v ≡ None = f.first_is ∙ ap (part_if head) z in let y : ◌≡◌ {A = ℕ} 0 1 = cc in omega arith)
 
   pub states-two : (vs : List (List ℕ)) → FoundIn head vs r → 1 < r.count → stated_by vs ≡ refused 17
   states-two [] f h = absurd (omega (arith, f.count_is))
   states-two (v ∷ []) f h = absurd (omega (arith, f.count_is))
   states-two (v ∷ (w ∷ vs)) f h = refl
 
-  pub states-one :
-      (vs : List (List ℕ)) → FoundIn head vs r → (r.count ≡ 0 → ⊥) → r.count ≤ 1
-      → stated_by vs ≡ given (number_of (take r.len (drop r.start head))) 17
-  states-one [] f z h = absurd (z f.count_is)
-  states-one (v ∷ (w ∷ vs)) f z h = absurd (omega (arith, f.count_is))
-  states-one (v ∷ []) f z h =
-      let p : ltb 0 r.count ≡ true = lt-ltb 0 r.count (omega arith) in
-      let e : Some v ≡ Some (take r.len (drop r.start head)) = f.first_is ∙ ap (λ (t : Bool). part_if t head r.start r.len) p in
-      let q : v ≡ take r.len (drop r.start head) = cc in
-      ap (λ (s : List ℕ). given (number_of s) 17) q
+  module _ (s : Span) (first : r.first ≡ Some s) where
+    pub states-one : (vs : List (List ℕ)) → FoundIn head vs r → r.count ≤ 1 → stated_by vs ≡ given (number_of (part_at head s)) 17
+    states-one [] f h = absurd (let e : None ≡ Some (part_at head s) = f.first_is ∙ ap (part_if head) first in let y : ◌≡◌ {A = ℕ} 0 1 = cc in omega arith)
+    states-one (v ∷ (w ∷ vs)) f h = absurd (omega (arith, f.count_is))
+    states-one (v ∷ []) f h =
+        let e : Some v ≡ Some (part_at head s) = f.first_is ∙ ap (part_if head) first in
+        let q : v ≡ part_at head s = cc in
+        ap (λ (t : List ℕ). given (number_of t) 17) q
+
+    pub value-inside : {vs : List (List ℕ)} → FoundIn head vs r → s.start + s.len ≤ length head
+    value-inside f = rw first at f.inside
 
 -- The whole chain.
 
@@ -102,9 +105,9 @@ chain true (gives n) false e = refl
 chain true (refused n) t e = refl
 chain false o t e = refl
 
-module _ (version head ps : List ℕ) (n : ℕ) where
+module _ (version head : List ℕ) (ps : List Spans) where
   abbrev fs : List Field
-  fs = lowered (fields_at head ps 0 n)
+  fs = lowered (fields_at head ps)
 
   abbrev stated : Outcome ℕ
   stated = stated_by (values_of (bytes "content-length") fs)
@@ -118,26 +121,26 @@ module _ (version head ps : List ℕ) (n : ℕ) where
   unfolding rules_of content_of
   rules-are = chain (host_right version fs) (stated_by (values_of (bytes "content-length") fs)) (leb (length (values_of (bytes "content-type") fs)) 1) coded
 
-  pub bad-host : host_right version fs ≡ false → refused 16 ≡ judged_of version head ps n
+  pub bad-host : host_right version fs ≡ false → refused 16 ≡ judged_of version head ps
   bad-host h = sym (rw (rules-are, h))
 
   module _ (host : host_right version fs ≡ true) where
-    pub unstated : (k : ℕ) → stated ≡ refused k → refused k ≡ judged_of version head ps n
+    pub unstated : (k : ℕ) → stated ≡ refused k → refused k ≡ judged_of version head ps
     unstated k e = sym (rw (rules-are, host, e))
 
     module _ (m : ℕ) (said : stated ≡ gives m) {type : Found} (t : FoundIn head (values_of (bytes "content-type") fs) type) where
-      pub two-types : 1 < type.count → refused 17 ≡ judged_of version head ps n
+      pub two-types : 1 < type.count → refused 17 ≡ judged_of version head ps
       two-types h = sym (rw (rules-are, host, said, lt-leb (length (values_of (bytes "content-type") fs)) 1 (omega (arith, t.count_is))))
 
       module _ (one : type.count ≤ 1) {coding : Found} (c : FoundIn head (values_of (bytes "transfer-encoding") fs) coding) where
         one_type : leb (length (values_of (bytes "content-type") fs)) 1 ≡ true
         one_type = le-leb (length (values_of (bytes "content-type") fs)) 1 (omega (arith, t.count_is))
 
-        pub is-coded : 0 < coding.count → refused 18 ≡ judged_of version head ps n
+        pub is-coded : 0 < coding.count → refused 18 ≡ judged_of version head ps
         is-coded h =
             sym (rw (rules-are, host, said, one_type, ne_eqb (length (values_of (bytes "transfer-encoding") fs)) 0 (λ z. omega (arith, c.count_is))))
 
-        pub passes : coding.count ≤ 0 → type ≡ found_of (bytes "content-type") head ps n → gives (judged m type) ≡ judged_of version head ps n
+        pub passes : coding.count ≤ 0 → type ≡ found_of (bytes "content-type") head ps → gives (judged m type) ≡ judged_of version head ps
         passes h e =
             ap (λ (f : Found). gives (judged m f)) e
             ∙ sym (rw (rules-are, host, said, one_type, eq-eqb (length (values_of (bytes "transfer-encoding") fs)) 0 (omega (arith, c.count_is))))

@@ -1,6 +1,6 @@
 -- What is claimed of the head of a request.
 -- Assumes nothing.
-use Rattle.std.specs.Prelude.{ℕ, ◌≤◌, ◌≡◌, true, List, [], ◌∷◌, length}
+use Rattle.std.specs.Prelude.{ℕ, ◌≤◌, ◌≡◌, true, List, [], ◌∷◌, length, Ok, Err}
 use Rattle.octets.specs.Outcome.{refused, gives}
 use Rattle.octets.specs.Kinds.{one_of, is_name}
 use Rattle.octets.specs.Lists.{All}
@@ -14,11 +14,14 @@ use Rattle.request.specs.Request.{Request, rules_of, request_of}
 use Rattle.request.specs.RequestRead.{request_in, LineKnown, FieldsKnown, RequestRead}
 use Rattle.request.specs.declared.read.LinePlaces.{LinePlaces}
 use Rattle.request.specs.declared.read.FieldPlaces.{FieldPlaces}
-use Rattle.request.specs.declared.read.Reading.TheVariants.{Request as ReadRequest, Refused}
+use Rattle.octets.specs.Refusal.{number_of}
+use Rattle.octets.specs.declared.refusal.Refusal.{Refusal}
+use Rattle.http_head.specs.declared.fields.Field.{Field as Spans}
+use Rattle.request.specs.declared.read.RequestPlaces.{RequestPlaces}
 
 -- the request with the head has just the parts that stand at the places, in the head and in the list and the buffer as the code left them; and
 -- code may go by the places
-pub record RequestStands (head places path : List ℕ) (l : LinePlaces) (f : FieldPlaces) : Type 0 where
+pub record RequestStands (head : List ℕ) (places : List Spans) (path : List ℕ) (l : LinePlaces) (f : FieldPlaces) : Type 0 where
   pub answer : gives (request_in head places path l f) ≡ request_of head
   pub line : LineKnown head path l
   pub fields : FieldsKnown head places f
@@ -26,11 +29,11 @@ pub record RequestStands (head places path : List ℕ) (l : LinePlaces) (f : Fie
 -- what the numbers of an answer say of the request; a refusal is the request's own
 pub record RequestsTold : Type 0 where
   pub accepts :
-      (head places places' path path' : List ℕ) (l : LinePlaces) (f : FieldPlaces) → RequestRead head places places' path path' (ReadRequest l f)
-      → RequestStands head places' path' l f
+      (head : List ℕ) (places places' : List Spans) (path path' : List ℕ) (r : RequestPlaces) → RequestRead head places places' path path' (Ok r)
+      → RequestStands head places' path' r.line r.fields
   pub refuses :
-      (head places places' path path' : List ℕ) (n : ℕ) → RequestRead head places places' path path' (Refused n)
-      → refused n ≡ request_of head
+      (head : List ℕ) (places places' : List Spans) (path path' : List ℕ) (e : Refusal) → RequestRead head places places' path path' (Err e)
+      → refused (number_of e) ≡ request_of head
 
 -- an accepted request: its line, its target and its field lines are accepted each by its own rules, and the rules over all fields hold
 pub record Obeys (head : List ℕ) (q : Request) : Type 0 where

@@ -1,40 +1,45 @@
-// The fields of a request, by their places in a lent list: four numbers for each, start and length of name and of value.
-ghost use Rattle.std.specs.Prelude.{◌≡◌, ◌+◌, ◌*◌, ◌<◌, length, get_or};
+// The fields of a request, by their places in its head.
+ghost use Rattle.std.specs.Prelude.{◌≡◌, ◌<◌, length, get_or};
 ghost use Rattle.octets.specs.Lies.{LiesAt};
 ghost use Rattle.octets.specs.Compare.{same_letters};
-ghost use Rattle.http_head.specs.Fields.{field_at, Inside};
+ghost use Rattle.http_head.specs.Fields.{field_at, nowhere, AllInside};
 
-use octets::compare::equal_letters;
+use http_head::fields::Field;
+use octets::compare::same_letters;
 
-// The name of the field with number k, as that part of the head.
-pub fn field_name<'a>(head: &'a [u8], places: &[u64], k: usize) -> &'a [u8]
-    requires { (4 * k + 3 < length places.now) × Inside head.now places.now k }
-    ensures { (result.now ≡ (field_at head.now places.now k).name) × LiesAt head.entry.ref_ptr (get_or places.now (4 * k) 0) result.ref_ptr }
-{
-    let start = places[4 * k] as usize;
-    let len = places[4 * k + 1] as usize;
-    &head[start..start + len]
+// The fields of a request, each by its place in the head, in which all of them lie.
+#[derive(Clone, Copy)]
+pub struct Fields<'a> {
+    pub head: &'a [u8],
+    pub places: &'a [Field],
+    pub ghost inside: { AllInside head.now places.now },
 }
 
-// Whether the field with number k has this name, letter case aside. A name of another length costs one comparison of two numbers, and none of its
-// bytes is read.
-pub fn has_name(head: &[u8], places: &[u64], k: usize, name: &[u8]) -> bool
-    requires { (4 * k + 3 < length places.now) × Inside head.now places.now k }
-    ensures { result ≡ same_letters (field_at head.now places.now k).name name.now }
-{
-    let len = places[4 * k + 1] as usize;
-    if len != name.len() {
-        return false;
+impl<'a> Fields<'a> {
+    // The name of the field with number k, as that part of the head.
+    pub fn name(self, k: usize) -> &'a [u8]
+        requires { k < length self.places.now }
+        ensures { (result.now ≡ (field_at self.entry.head.now self.entry.places.now k).name)
+            × LiesAt self.entry.head.ref_ptr (get_or self.entry.places.now k nowhere).name.start result.ref_ptr }
+    {
+        self.places[k].name.of(self.head)
     }
-    equal_letters(field_name(head, places, k), name)
-}
 
-// The value of the field with number k, as that part of the head.
-pub fn field_value<'a>(head: &'a [u8], places: &[u64], k: usize) -> &'a [u8]
-    requires { (4 * k + 3 < length places.now) × Inside head.now places.now k }
-    ensures { (result.now ≡ (field_at head.now places.now k).value) × LiesAt head.entry.ref_ptr (get_or places.now (4 * k + 2) 0) result.ref_ptr }
-{
-    let start = places[4 * k + 2] as usize;
-    let len = places[4 * k + 3] as usize;
-    &head[start..start + len]
+    // The value of the field with number k, as that part of the head.
+    pub fn value(self, k: usize) -> &'a [u8]
+        requires { k < length self.places.now }
+        ensures { (result.now ≡ (field_at self.entry.head.now self.entry.places.now k).value)
+            × LiesAt self.entry.head.ref_ptr (get_or self.entry.places.now k nowhere).value.start result.ref_ptr }
+    {
+        self.places[k].value.of(self.head)
+    }
+
+    // Whether the field with number k has this name, letter case aside. A name of another length costs one comparison of two numbers, and none
+    // of its bytes is read.
+    pub fn has_name(self, k: usize, name: &[u8]) -> bool
+        requires { k < length self.places.now }
+        ensures { result ≡ same_letters (field_at self.entry.head.now self.entry.places.now k).name name.now }
+    {
+        same_letters(self.name(k), name)
+    }
 }

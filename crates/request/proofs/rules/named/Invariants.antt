@@ -1,10 +1,10 @@
-use Prim.Native.Nat.{◌-◌, ◌≤◌}
-use Rattle.request.specs.Rules.{found_of}
 use mathlib.Core.Path.{◌≡◌}
+use Prim.Native.Nat.{◌≤◌}
+use lib.ListN.{drop}
+use Rattle.request.specs.Rules.{found_from, found_of}
 use Rattle.request.proofs.rules.named.Given as goal
 
-abbrev pub invariant-loop-k : goal.invariant-loop-k
-invariant-loop-k l = (l.k ≤ l.n) × (l.seen ≡ found_of l.name l.head l.places l.k)
-
-abbrev pub decreases-loop-k : goal.decreases-loop-k
-decreases-loop-k l = l.n - l.k
+abbrev pub invariant-loop-field : goal.invariant-loop-field
+invariant-loop-field l =
+    (l.found.count ≤ l.field-index)
+    × (found_of l.name l.fields.head l.fields.places ≡ found_from l.name l.fields.head l.found (drop l.field-index l.fields.places))
