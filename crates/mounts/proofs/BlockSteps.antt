@@ -1,6 +1,6 @@
 -- Laws of a lent block, for the code that judges it.
 -- Assumes nothing.
-use Prim.Native.Nat.{ℕ, ◌*◌, ◌≤◌, ◌<◌}
+use Prim.Native.Nat.{ℕ, ◌≤◌, ◌<◌}
 use mathlib.Core.Path.{◌≡◌, refl, sym, ap}
 use mathlib.Core.Bool.{Bool, true, false, cond, ◌&&◌}
 use mathlib.Core.List.{List}
@@ -32,7 +32,7 @@ need-refused : (t : Bool) → need {A = List Header} t 20 (refused 20) ≡ refus
 need-refused true = refl
 need-refused false = refl
 
--- Storing the names of a block, where there is room for so many numbers.
+-- Storing the names of a block, where there is room for so many places.
 
 module _ (limit : ℕ) (b : List ℕ) (room : ℕ) where
   pub long-block : limit < length b → Some (refused 20) ≡ stored_of limit room b
@@ -50,13 +50,13 @@ module _ (limit : ℕ) (b : List ℕ) (room : ℕ) where
       by (Some hs) q = cc
 
   module _ (n : ℕ) (e : count_of b ≡ gives n) (l : length b ≤ limit) where
-    lacks : lacks_room limit room b ≡ ltb room (2 * n)
+    lacks : lacks_room limit room b ≡ ltb room n
     lacks =
         let g = counted b n e in
         rw (le-leb (length b) limit l, given-gives (headers_of b) 5 g.it g.first, count b n e)
 
-    pub full_block : room < 2 * n → None ≡ stored_of limit room b
-    full_block h = rw (lacks, lt-ltb room (2 * n) h)
+    pub full_block : room < n → None ≡ stored_of limit room b
+    full_block h = rw (lacks, lt-ltb room n h)
 
     -- by whether the names differ
     by_names : (r : Bool) → then (parsed b) (λ hs. gives (different (names hs))) ≡ gives r → block_of limit b ≡ need r 20 (gives (counted b n e).it)
@@ -69,8 +69,8 @@ module _ (limit : ℕ) (b : List ℕ) (room : ℕ) where
     by-test hs z true = ap gives z
     by-test hs z false = refl
 
-    pub roomy-block : 2 * n ≤ room → (r : Bool) → then (parsed b) (λ hs. gives (different (names hs))) ≡ gives r → Some (need r 20 (gives n)) ≡ stored_of limit room b
-    roomy-block h r d = rw (lacks, le-ltb room (2 * n) h, by_names r d) (ap Some (sym (by-test (counted b n e).it (count b n e) r)))
+    pub roomy-block : n ≤ room → (r : Bool) → then (parsed b) (λ hs. gives (different (names hs))) ≡ gives r → Some (need r 20 (gives n)) ≡ stored_of limit room b
+    roomy-block h r d = rw (lacks, le-ltb room n h, by_names r d) (ap Some (sym (by-test (counted b n e).it (count b n e) r)))
 
 -- What is accepted, and what the answers say.
 

@@ -1,26 +1,30 @@
 -- Laws of the check of mounts, from header to header.
 -- Assumes nothing.
-use Prim.Native.Nat.{ℕ, ◌+◌, ◌-◌, ◌*◌, ◌≤◌, ◌<◌}
+use Prim.{absurd}
+use Prim.Native.Nat.{ℕ, ◌+◌, ◌-◌, ◌≤◌, ◌<◌}
 use mathlib.Core.Path.{◌≡◌, refl, sym, ap, ◌∙◌}
 use mathlib.Core.Bool.{Bool, true, false, ◌&&◌}
 use mathlib.Core.List.{List, [], ◌∷◌, ◌++◌}
-use Rattle.std.proofs.Common.{Option, None, Some}
+use Rattle.std.proofs.Common.{Option, None, Some, Result, Ok, Err, IsOk, is_some}
 use native.Mathlib.Omega.{arith}
 use lib.Dec.{eqb, leb, ltb}
 use lib.ListN.{length, take, drop, get_or, length-take, length-drop, drop_of_length-le}
+use borrow.Author.Rules.{rules}
 use borrow.Author.Tests.{eq-eqb, ne_eqb, lt-leb, le-leb, ltb-true, ltb-false}
 use Rattle.octets.specs.Outcome.{Outcome, refused, gives, is_good, then, need, given}
 use Rattle.octets.specs.Lists.{different}
+use Rattle.octets.specs.Refusal.{number_of}
+use Rattle.octets.specs.declared.refusal.Refusal.{Refusal}
 use Rattle.octets.specs.Parts.{parted}
 use Rattle.octets.proofs.Bools.{and_left, and_right}
 use Rattle.octets.proofs.Lists.{part-first, part-last}
 use Rattle.octets.proofs.Outcomes.{given-gives, gives-once, then-gives}
 use Rattle.headers.specs.Block.{Header, names, headers_of, paired, parsed, well_formed, header_in, header_ends, header_outcome, HeaderFound}
 use Rattle.headers.specs.declared.block.HeaderPlace.{HeaderPlace}
-use Rattle.headers.specs.declared.block.HeaderPlace.TheVariants.{At, Refused}
 use Rattle.headers.proofs.Claims.{well-formed-headed, header-parses}
 use Rattle.mounts.specs.Blocks.{block_of, many_for, lacks_room, BlockGood}
-use Rattle.mounts.specs.Value.{Value, value_of}
+use Rattle.mounts.specs.Value.{value_of, value_outcome}
+use Rattle.mounts.specs.declared.value.Value.{Value}
 use Rattle.mounts.specs.Mounts.{Mount, begins, ends, mount_at, mounts_from, mounts_of}
 use Rattle.mounts.proofs.BlockSteps.{blocks-hold}
 
@@ -72,15 +76,14 @@ module _ (b : List ℕ) (i n v : ℕ) (o : (i < n) × (n < v) × (v < length b))
       last-is : ends 47 (header_in b i n v).name ≡ false
       last-is = name-last ∙ ne_eqb (get_or b (n - 1) 0) 47 l
 
-      pub bad-value : value_of (header_in b i n v).value ≡ refused 20 → is_mount ≡ false
-      bad-value e = rw (first_is, last-is, e)
-
-      pub is-mount : (w : Value) → value_of (header_in b i n v).value ≡ gives w → is_mount ≡ true
-      is-mount w e = rw (first_is, last-is, e)
+      -- by what the value says
+      pub by-value : (o : Option Value) → value_outcome o ≡ value_of (header_in b i n v).value → is_mount ≡ is_some o
+      by-value None e = rw (first_is, last-is, ← e)
+      by-value (Some w) e = rw (first_is, last-is, ← e)
 
 -- the header that was found at i
-pub found_at : (b : List ℕ) (i : ℕ) (p q : HeaderPlace) → i < length b → header_outcome p ≡ header_ends b i → p ≡ q → HeaderFound b i (header_outcome q)
-found_at b i p q h e z = rw (sym e ∙ ap header_outcome z) at (header-parses b i h)
+pub found_at : (b : List ℕ) (i : ℕ) (o : Outcome HeaderPlace) → i < length b → o ≡ header_ends b i → HeaderFound b i o
+found_at b i o h e = rw (sym e) at (header-parses b i h)
 
 -- Going from mount to mount: those before i are mounts.
 
@@ -113,10 +116,11 @@ pub record Step (b : List ℕ) (v : ℕ) (t : Bool) : Type 0 where
   pub bad : t ≡ false → is_good (mounts_in b) ≡ false
 
 module _ {b : List ℕ} {i : ℕ} (w : Walk b i) where
-  pub step : (n v : ℕ) (h : HeaderFound b i (header_outcome (At n v))) → Step b v (is_mount b i n v h.order)
+  pub step : (p : HeaderPlace) (h : HeaderFound b i (gives p)) → Step b p.value_end (is_mount b i p.name_end p.value_end h.order)
   unfolding mounts_from
-  step n v h =
-      let x = header_in b i n v in
+  step q h =
+      let v : ℕ = q.value_end in
+      let x = header_in b i q.name_end v in
       let g = then-gives (parsed (drop (v + 1) b)) (λ gs. gives (x ∷ gs)) w.hs (h.answer ∙ w.rest) in
       let z : x ∷ g.it ≡ w.hs = gives-once _ _ g.next in
       let m = mount_at (i + length x.name + 1) x in
@@ -127,16 +131,16 @@ module _ {b : List ℕ} {i : ℕ} (w : Walk b i) where
             record {
               hs = g.it;
               rest = g.first;
-              answer = a ∙ good_more m p t ∙ ap (λ (k : ℕ). is_good (mounts_from k g.it)) (behind b i n v h.order);
+              answer = a ∙ good_more m p t ∙ ap (λ (k : ℕ). is_good (mounts_from k g.it)) (behind b i q.name_end v h.order);
             };
         bad = λ t. a ∙ bad_more m p t;
       }
 
-  pub always-header : (k : ℕ) → HeaderFound b i (header_outcome (Refused k)) → ⊥
-  always-header k h =
-      let e : refused k ≡ gives w.hs = h.answer ∙ w.rest in
-      let z : ◌≡◌ {A = ℕ} 0 1 = cc in
-      omega arith
+  pub always-header : (r : Result HeaderPlace Refusal) → HeaderFound b i (header_outcome r) → IsOk r
+  always-header (Ok p) h = search rules
+  always-header (Err k) h =
+      let e : refused (number_of k) ≡ gives w.hs = h.answer ∙ w.rest in
+      absurd (let z : ◌≡◌ {A = ℕ} 0 1 = cc in omega arith)
 
   pub no_more : length b ≤ i → is_good (mounts_in b) ≡ true
   unfolding mounts_from parted paired
@@ -147,33 +151,33 @@ module _ {b : List ℕ} {i : ℕ} (w : Walk b i) where
 -- The block of the mounts.
 
 module _ (b : List ℕ) where
-  -- a list of 64 numbers has room for the names of 32 mounts
-  pub too_many : lacks_room 4096 64 b ≡ true → is_good (mounts_of b) ≡ false
+  -- a list of 32 places has room for the names of 32 mounts
+  pub too_many : lacks_room 4096 32 b ≡ true → is_good (mounts_of b) ≡ false
   unfolding mounts_of
-  too_many e = by (headers_of b) (and_right (leb (length b) 4096) (many_for 64 (headers_of b)) e)
+  too_many e = by (headers_of b) (and_right (leb (length b) 4096) (many_for 32 (headers_of b)) e)
     where
       many : (hs : List Header) (t : Bool) → leb (length hs) 32 ≡ false → is_good (then (need t 20 (gives hs)) (λ xs. need (leb (length xs) 32) 20 (mounts_from 0 xs))) ≡ false
       many hs true q = rw q
       many hs false q = refl
 
       by :
-          (o : Option (List Header)) → many_for 64 o ≡ true
+          (o : Option (List Header)) → many_for 32 o ≡ true
           → is_good (then (need (leb (length b) 4096) 20 (then (given o 20) (λ hs. need (different (names hs)) 20 (gives hs)))) (λ hs. need (leb (length hs) 32) 20 (mounts_from 0 hs)))
           ≡ false
       by None q = cc
       by (Some hs) q =
-          let h : 64 < 2 * length hs = ltb-true 64 (2 * length hs) q in
-          rw (and_left (leb (length b) 4096) (many_for 64 (headers_of b)) e)
-          (many hs (different (names hs)) (lt-leb (length hs) 32 (omega arith)))
+          let h : 32 < length hs = ltb-true 32 (length hs) q in
+          rw (and_left (leb (length b) 4096) (many_for 32 (headers_of b)) e)
+          (many hs (different (names hs)) (lt-leb (length hs) 32 h))
 
   pub bad-block : block_of 4096 b ≡ refused 20 → is_good (mounts_of b) ≡ false
   unfolding mounts_of
   bad-block e = rw e
 
-  pub good-block : lacks_room 4096 64 b ≡ false → BlockGood 4096 b → is_good (mounts_in b) ≡ is_good (mounts_of b)
+  pub good-block : lacks_room 4096 32 b ≡ false → BlockGood 4096 b → is_good (mounts_in b) ≡ is_good (mounts_of b)
   unfolding mounts_of
   good-block l g =
       let w = le-leb (length b) 4096 (blocks-hold.accepts 4096 b g.hs g.accepted).within in
-      let r : ltb 64 (2 * length g.hs) ≡ false = rw (w, given-gives (headers_of b) 5 g.hs g.headers) at l in
-      let f : 2 * length g.hs ≤ 64 = ltb-false 64 (2 * length g.hs) r in
-      rw (g.headers, g.accepted, le-leb (length g.hs) 32 (omega arith))
+      let r : ltb 32 (length g.hs) ≡ false = rw (w, given-gives (headers_of b) 5 g.hs g.headers) at l in
+      let f : length g.hs ≤ 32 = ltb-false 32 (length g.hs) r in
+      rw (g.headers, g.accepted, le-leb (length g.hs) 32 f)

@@ -17,7 +17,8 @@ use Rattle.octets.proofs.Outcomes.{need-gives, gives-once, then-gives}
 use Rattle.headers.specs.Block.{Header, Proper, printed, parsed}
 use Rattle.headers.proofs.Claims.{headers-proper, printed-parsed}
 use Rattle.mounts.specs.Blocks.{block_of}
-use Rattle.mounts.specs.Value.{pool_of, limit_of, Value, value_of}
+use Rattle.mounts.specs.Value.{pool_of, limit_of, value_of}
+use Rattle.mounts.specs.declared.value.Value.{Value}
 use Rattle.mounts.specs.Mounts.{Mount, begins, ends, mount_at, mounts_from, mounts_of}
 use Rattle.mounts.specs.Claims.{MountOf, Each, none_left, one_more, MountsAreHeaders}
 use Rattle.mounts.proofs.BlockSteps.{blocks-hold}
@@ -27,7 +28,7 @@ use Rattle.mounts.proofs.Values.{pool-is, pool-length, limit-small}
 pub record Made (i : ℕ) (h : Header) (m : Mount) : Type 0 where
   pub value : Value
   pub read : value_of h.value ≡ gives value
-  pub is : record { name = h.name; pool_start = i; pool_length = value.pool_length; limit = value.limit } ≡ m
+  pub is : record { name = h.name; pool_start = i; pool_length = value.len; limit = value.limit } ≡ m
 
 pub mount-made : (i : ℕ) (h : Header) (m : Mount) → mount_at i h ≡ gives m → Made i h m
 mount-made i h m e =
@@ -38,7 +39,7 @@ mount-made i h m e =
 
 -- the two parts of a value
 record ValueMade (v : List ℕ) (w : Value) : Type 0 where
-  pool : w.pool_length ≡ length (pool_of v)
+  pool : w.len ≡ length (pool_of v)
   limit : limit_of v ≡ gives w.limit
 
 value_made : (v : List ℕ) (w : Value) → value_of v ≡ gives w → ValueMade v w
@@ -46,8 +47,8 @@ unfolding value_of
 value_made v w e =
     let a = need-gives (not (is_nil (pool_of v))) 20 _ w e in
     let b = then-gives (limit_of v) _ w a.1 in
-    let z : record { pool_length = length (pool_of v); limit = b.it } ≡ w = gives-once _ w b.next in
-    record { pool = sym (ap (λ (x : Value). x.pool_length) z); limit = b.first ∙ ap (λ (x : Value). gives x.limit) z }
+    let z : record { len = length (pool_of v); limit = b.it } ≡ w = gives-once _ w b.next in
+    record { pool = sym (ap (λ (x : Value). x.len) z); limit = b.first ∙ ap (λ (x : Value). gives x.limit) z }
 
 -- headers that are printed in b from i on
 module _ (b : List ℕ) where

@@ -7,17 +7,16 @@ use mathlib.Core.List.{List, [], ◌∷◌}
 use Rattle.std.proofs.Common.{Option, None, Some}
 use native.Mathlib.Omega.{arith}
 use lib.ListN.{length, take, length-take}
-use Rattle.octets.specs.Outcome.{gives, is_good, then, given}
+use Rattle.octets.specs.Outcome.{refused, gives, is_good, then, given}
 use Rattle.octets.specs.Compare.{same_bytes}
 use Rattle.octets.proofs.Compares.{same_true}
 use Rattle.octets.proofs.Outcomes.{Given, good-gives, gives-once, then-gives}
 use Rattle.headers.specs.Block.{Header, well_formed}
-use Rattle.headers.specs.Lookup.{Part, part_in, part_option, value_in, place_in, place_option, lookup_of}
-use Rattle.headers.specs.declared.lookup.Place.{Place}
+use Rattle.octets.specs.declared.span.Span.{Span}
+use Rattle.headers.specs.Lookup.{part_in, part_option, value_in, place_in, lookup_of}
 use Rattle.headers.proofs.Claims.{well-formed-headed, lookup-finds-value}
 use Rattle.mounts.specs.Mounts.{Mount, mount_at, mounts_from, mounts_of}
-use Rattle.mounts.specs.Search.{shortened, mount_named, tried, place_of, place_by, search_of, mount_outcome}
-use Rattle.mounts.specs.declared.search.Mount.TheVariants.{Refused}
+use Rattle.mounts.specs.Search.{shortened, mount_named, tried, place_of, place_by, search_of}
 use Rattle.mounts.proofs.Mounts.{shortened-shorter, tried_here, tried-last, tried-on}
 use Rattle.mounts.proofs.Pools.{mount-made, Held, held}
 
@@ -25,25 +24,21 @@ use Rattle.mounts.proofs.Pools.{mount-made, Held, held}
 pub front-shorter : (path : List ℕ) (k : ℕ) → shortened path ≡ Some (take k path) → k < length path
 front-shorter path k e = omega (arith, length-take k path, shortened-shorter path (take k path) e)
 
--- what a lookup says, by the answer
-pub looked-up : (block name : List ℕ) (p q : Place) → gives (place_option p) ≡ lookup_of block name → p ≡ q → lookup_of block name ≡ gives (place_option q)
-looked-up block name p q e z = sym e ∙ ap (λ (x : Place). gives (place_option x)) z
-
 -- The mount with a name is that of the header with the name, whose value stands where the lookup finds it.
 
-pub record Named (name : List ℕ) (p : Part) (v : List ℕ) (ms : List Mount) : Type 0 where
+pub record Named (name : List ℕ) (p : Span) (v : List ℕ) (ms : List Mount) : Type 0 where
   pub m : Mount
   pub is : mount_named name ms ≡ Some m
   pub made : mount_at p.start (record { name = name; value = v }) ≡ gives m
 
-abbrev NamedBy : List ℕ → Option Part → Option (List ℕ) → List Mount → Type 0
+abbrev NamedBy : List ℕ → Option Span → Option (List ℕ) → List Mount → Type 0
 NamedBy name (Some p) (Some v) ms = Named name p v ms
 NamedBy name (Some p) None ms = ⊥
 NamedBy name None (Some v) ms = ⊥
 NamedBy name None None ms = mount_named name ms ≡ None
 
 -- a mount of another name before them changes nothing
-named-later : (name : List ℕ) (m : Mount) (ms : List Mount) → same_bytes m.name name ≡ false → (o : Option Part) (v : Option (List ℕ)) → NamedBy name o v ms → NamedBy name o v (m ∷ ms)
+named-later : (name : List ℕ) (m : Mount) (ms : List Mount) → same_bytes m.name name ≡ false → (o : Option Span) (v : Option (List ℕ)) → NamedBy name o v ms → NamedBy name o v (m ∷ ms)
 unfolding mount_named
 named-later name m ms q (Some p) (Some v) x = record { m = x.m; is = rw q x.is; made = x.made }
 named-later name m ms q None None x = rw q x
@@ -96,24 +91,24 @@ module _ (mounts path : List ℕ) (good : is_good (mounts_of mounts) ≡ true) w
   h = held mounts g.it g.is
 
   -- what the lookup says of the path as a name
-  looked : (o : Option Part) → lookup_of mounts path ≡ gives o → NamedBy path o (part_option mounts o) g.it
+  looked : (o : Option Span) → lookup_of mounts path ≡ gives o → NamedBy path o (part_option mounts o) g.it
   unfolding lookup_of
   looked o e =
       let z : place_in path 0 h.hs ≡ o = gives-once _ o (rw h.headers at e) in
       let v = lookup-finds-value mounts path h.hs o h.headers e in
       subst (λ (x : Option (List ℕ)). NamedBy path o x g.it) (sym v)
-      (subst (λ (x : Option Part). NamedBy path x (value_in path h.hs) g.it) z (named path 0 h.hs g.it h.made))
+      (subst (λ (x : Option Span). NamedBy path x (value_in path h.hs) g.it) z (named path 0 h.hs g.it h.made))
 
   searched : (o : Option Mount) → tried g.it path ≡ o → search_of mounts path ≡ then (given o 19) (λ m. gives (place_of m))
   searched o e = rw (g.is, e)
 
-  pub path-is-mount : (p : Part) → lookup_of mounts path ≡ gives (Some p) → place_by (length path) p.start (part_in mounts p) ≡ search_of mounts path
+  pub path-is-mount : (p : Span) → lookup_of mounts path ≡ gives (Some p) → place_by (length path) p.start (part_in mounts p) ≡ search_of mounts path
   path-is-mount p e =
       let n = looked (Some p) e in
       let d = mount-made p.start (record { name = path; value = part_in mounts p }) n.m n.made in
       rw d.read (ap (λ (m : Mount). gives (place_of m)) d.is) ∙ sym (searched (Some n.m) (tried_here g.it path n.m n.is))
 
-  pub no-mount : lookup_of mounts path ≡ gives None → shortened path ≡ None → mount_outcome (Refused 19) ≡ search_of mounts path
+  pub no-mount : lookup_of mounts path ≡ gives None → shortened path ≡ None → refused 19 ≡ search_of mounts path
   no-mount e s = sym (searched None (tried-last g.it path (looked None e) s))
 
   pub shorter-path : (t : List ℕ) → lookup_of mounts path ≡ gives None → shortened path ≡ Some t → search_of mounts t ≡ search_of mounts path

@@ -81,11 +81,11 @@ module _ (v : List ℕ) (end : ℕ) (found : end ≡ 0 + run (other 59) v) where
   empty-pool h = rw (nil-empty (pool_of v) (pool-length v ∙ sym is ∙ h))
 
   module _ (f : end ≡ 0 → ⊥) where
-    filled : value_of v ≡ then (limit_of v) (λ n. gives (record { pool_length = end; limit = n }))
+    filled : value_of v ≡ then (limit_of v) (λ n. gives (record { len = end; limit = n }))
     unfolding value_of
     filled = rw (nil-filled (pool_of v) (omega (arith, pool-length v)), pool-length v ∙ sym is)
 
-    pub no-limit : end ≡ length v → value_of v ≡ gives (record { pool_length = end; limit = 1048576 })
+    pub no-limit : end ≡ length v → value_of v ≡ gives (record { len = end; limit = 1048576 })
     no-limit h = filled ∙ rw (part_none 59 v (omega arith))
 
     module _ (h : end ≡ length v → ⊥) where
@@ -103,7 +103,7 @@ module _ (v : List ℕ) (end : ℕ) (found : end ≡ 0 + run (other 59) v) where
           ∙ ap (λ (s : List ℕ). then (given (number_of s) 20) (λ n. need (leb n 1048576) 20 (gives n)))
           (ap (λ (k : ℕ). drop (k + 1) v) (sym is) ∙ sym (from v (end + 1)))
 
-      by-limit : (o : Option ℕ) → number ≡ o → value_of v ≡ then (then (given o 20) (λ n. need (leb n 1048576) 20 (gives n))) (λ n. gives (record { pool_length = end; limit = n }))
+      by-limit : (o : Option ℕ) → number ≡ o → value_of v ≡ then (then (given o 20) (λ n. need (leb n 1048576) 20 (gives n))) (λ n. gives (record { len = end; limit = n }))
       by-limit o e = filled ∙ rw (behind ∙ ap (λ (x : Option ℕ). then (given x 20) (λ n. need (leb n 1048576) 20 (gives n))) e)
 
       pub bad-number : number ≡ None → value_of v ≡ refused 20
@@ -113,7 +113,7 @@ module _ (v : List ℕ) (end : ℕ) (found : end ≡ 0 + run (other 59) v) where
         pub above-limit : 1048576 < n → value_of v ≡ refused 20
         above-limit l = by-limit (Some n) e ∙ rw (lt-leb n 1048576 l)
 
-        pub is-limit : n ≤ 1048576 → value_of v ≡ gives (record { pool_length = end; limit = n })
+        pub is-limit : n ≤ 1048576 → value_of v ≡ gives (record { len = end; limit = n })
         is-limit l = by-limit (Some n) e ∙ rw (le-leb n 1048576 l)
 
 -- a limit is never above the old one

@@ -14,7 +14,8 @@ use Rattle.octets.specs.Lists.{is_in, different}
 use Rattle.octets.specs.Scan.{count}
 use Rattle.octets.specs.Parts.{parted}
 use Rattle.headers.specs.Block.{Header, paired, printed}
-use Rattle.mounts.specs.Value.{Value, value_of}
+use Rattle.mounts.specs.Value.{value_of}
+use Rattle.mounts.specs.declared.value.Value.{Value}
 use Rattle.mounts.specs.Mounts.{mounts_from, mounts_of, Route, begins, ends, mount_of, mount_for, route_of}
 use Rattle.mounts.specs.Search.{shortened, mount_named, tried_in, MountPlace, search_of}
 
@@ -25,7 +26,7 @@ pub record Case : Type 0 where
   pub answer : Outcome Value
 
 abbrev pub pool : ℕ → ℕ → Outcome Value
-pool len n = gives (record { pool_length = len; limit = n })
+pool len n = gives (record { len = len; limit = n })
 
 unfoldable pub values : List Case
 values =
@@ -103,13 +104,16 @@ pub record Sought : Type 0 where
   pub path : String
   pub answer : MountPlace
 
+abbrev pub place : (name_len start len limit : ℕ) → MountPlace
+place n s l most = record { name_len = n; pool = record { start = s; len = l }; limit = most }
+
 unfoldable pub searches : List Sought
 searches =
-    record { mounts = "/a|x|/b|x|"; path = "/b"; answer = record { name_length = 2; pool_start = 8; pool_length = 1; limit = 1048576 } }
-    ∷ record { mounts = "/jobs|j|"; path = "/jobs/7"; answer = record { name_length = 5; pool_start = 6; pool_length = 1; limit = 1048576 } }
-    ∷ record { mounts = "/a|x;7|/a/b|xy;0000000005|"; path = "/a/b/c"; answer = record { name_length = 4; pool_start = 12; pool_length = 2; limit = 5 } }
-    ∷ record { mounts = "/a|x;7|/a/b|xy;0000000005|"; path = "/a/c"; answer = record { name_length = 2; pool_start = 3; pool_length = 1; limit = 7 } }
-    ∷ record { mounts = "/a/b|x;70|/a|x;0|"; path = "/a/b"; answer = record { name_length = 4; pool_start = 5; pool_length = 1; limit = 70 } }
+    record { mounts = "/a|x|/b|x|"; path = "/b"; answer = place 2 8 1 1048576 }
+    ∷ record { mounts = "/jobs|j|"; path = "/jobs/7"; answer = place 5 6 1 1048576 }
+    ∷ record { mounts = "/a|x;7|/a/b|xy;0000000005|"; path = "/a/b/c"; answer = place 4 12 2 5 }
+    ∷ record { mounts = "/a|x;7|/a/b|xy;0000000005|"; path = "/a/c"; answer = place 2 3 1 7 }
+    ∷ record { mounts = "/a/b|x;70|/a|x;0|"; path = "/a/b"; answer = place 4 5 1 70 }
     ∷ []
 
 pub searches-right : map (λ c. search_of (barred c.mounts) (bytes c.path)) searches ≡ map (λ c. gives c.answer) searches

@@ -32,7 +32,7 @@ mount_at i h =
     need (begins (47 ∷ []) h.name) 20
     (need (not (ends 47 h.name)) 20
     (then (value_of h.value) (λ v.
-    gives (record { name = h.name; pool_start = i; pool_length = v.pool_length; limit = v.limit }))))
+    gives (record { name = h.name; pool_start = i; pool_length = v.len; limit = v.limit }))))
 
 -- those of headers that stand in a block from i on, each "name, NUL, value, NUL"
 unfoldable pub mounts_from : ℕ → List Header → Outcome (List Mount)

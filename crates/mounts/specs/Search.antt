@@ -1,15 +1,14 @@
 -- The search of the mounts for the one that a path goes to: the path is tried as a name, then the path without its last segment.
 -- Assumes nothing.
-use Rattle.std.specs.Prelude.{ℕ, zero, suc, cond, List, [], ◌∷◌, eqb, length, take, Option, None, Some}
-use Rattle.octets.specs.Outcome.{Outcome, refused, gives, then, given}
+use Rattle.std.specs.Prelude.{ℕ, zero, suc, cond, List, [], ◌∷◌, eqb, length, take, Option, None, Some, Result}
+use Rattle.octets.specs.Outcome.{Outcome, gives, then, given}
 use Rattle.octets.specs.Compare.{same_bytes}
 use Rattle.octets.specs.Scan.{count}
+use Rattle.octets.specs.Refusal.{outcome}
+use Rattle.octets.specs.declared.refusal.Refusal.{Refusal}
 use Rattle.mounts.specs.Value.{value_of}
 use Rattle.mounts.specs.Mounts.{Mount, mounts_of}
-use Rattle.mounts.specs.declared.search.Slash.{Slash}
-use Rattle.mounts.specs.declared.search.Slash.TheVariants.{At, Absent}
-use Rattle.mounts.specs.declared.search.Mount as Answer
-use Rattle.mounts.specs.declared.search.Mount.TheVariants.{Found, Refused}
+use Rattle.mounts.specs.declared.search.Mount as Code
 
 -- the bytes before the last slash of s, if there is one; a slash is 47
 abbrev pub before_slash : ℕ → Option (List ℕ) → Option (List ℕ)
@@ -21,9 +20,9 @@ shortened [] = None
 shortened (b ∷ s) = before_slash b (shortened s)
 
 -- what the code's answer says
-abbrev pub slash_part : List ℕ → Slash → Option (List ℕ)
-slash_part path (At k) = Some (take k path)
-slash_part path Absent = None
+abbrev pub slash_part : List ℕ → Option ℕ → Option (List ℕ)
+slash_part path (Some k) = Some (take k path)
+slash_part path None = None
 
 -- the mount with that name: "of equal names the first counts"
 unfoldable pub mount_named : List ℕ → List Mount → Option Mount
@@ -46,24 +45,20 @@ abbrev pub tried : List Mount → List ℕ → Option Mount
 tried ms path = tried_in (suc (count 47 path)) ms path
 
 -- a mount by numbers: the length of its name, with which the path begins, its pool's place and its limit
-pub record MountPlace : Type 0 where
-  pub name_length : ℕ
-  pub pool_start : ℕ
-  pub pool_length : ℕ
-  pub limit : ℕ
+abbrev pub MountPlace : Type 0
+MountPlace = Code.Mount
 
 abbrev pub place_of : Mount → MountPlace
-place_of m = record { name_length = length m.name; pool_start = m.pool_start; pool_length = m.pool_length; limit = m.limit }
+place_of m = record { name_len = length m.name; pool = record { start = m.pool_start; len = m.pool_length }; limit = m.limit }
 
 -- .. whose name has n bytes, and whose value v stands at i
 abbrev pub place_by : (n i : ℕ) → List ℕ → Outcome MountPlace
-place_by n i v = then (value_of v) (λ w. gives (record { name_length = n; pool_start = i; pool_length = w.pool_length; limit = w.limit }))
+place_by n i v = then (value_of v) (λ w. gives (record { name_len = n; pool = record { start = i; len = w.len }; limit = w.limit }))
 
 -- of a mounts block; 19: "no mount fits"
 abbrev pub search_of : List ℕ → List ℕ → Outcome MountPlace
 search_of mounts path = then (mounts_of mounts) (λ ms. then (given (tried ms path) 19) (λ m. gives (place_of m)))
 
 -- what the code's answer says
-abbrev pub mount_outcome : Answer.Mount → Outcome MountPlace
-mount_outcome (Found n s l most) = gives (record { name_length = n; pool_start = s; pool_length = l; limit = most })
-mount_outcome (Refused n) = refused n
+abbrev pub mount_outcome : Result MountPlace Refusal → Outcome MountPlace
+mount_outcome = outcome (λ m. m)

@@ -1,42 +1,40 @@
 // Whether a lent block is what each of the three must be.
+ghost use Rattle.std.specs.Prelude.{length};
 ghost use Rattle.mounts.specs.Blocks.{BlockFound};
 
-use headers::block::Count;
-use headers::names::{store_names, stored_differ};
+use headers::names::{Names, store_names};
+use octets::span::Span;
 
-// What a block is.
-#[derive(Clone, Copy)]
-pub enum Named {
-    // How many headers it has, the places of whose names are stored.
-    Headers(usize),
-    // Every breach has the number 20.
+// Why a block is not taken.
+#[derive(Clone, Copy, Debug, PartialEq, Eq)]
+pub enum Unfit {
+    // The list has no room for all names of the block.
+    Full,
+    // Every breach of the rules for what is lent has the number 20.
     Breach,
 }
 
-#[derive(Clone, Copy)]
-pub enum Storing {
-    Done(Named),
-    // The list has no room for all names of the block.
-    Full,
-}
-
-// Whether a block has at most so many bytes, is well formed, and has no name twice. The places of its names are stored.
-pub fn store_block(block: &[u8], limit: usize, places: &mut [usize]) -> Storing
-    ensures { BlockFound limit block.now places.old places.new result }
+// The names of a block that has at most so many bytes, is well formed, and has no name twice. The list takes their places.
+pub fn store_block<'a>(
+    block: &'a [u8],
+    limit: usize,
+    places: &'a mut [Span],
+) -> Result<Names<'a>, Unfit>
+    ensures { BlockFound limit (length places.old) block.now result }
 {
     if limit < block.len() {
-        return Storing::Done(Named::Breach);
+        return Err(Unfit::Breach);
     }
-    let c = store_names(block, places);
-    let Count::Headers(n) = c else {
-        // 20: any breach of the rules for what is lent; a malformed block is one.
-        return Storing::Done(Named::Breach);
+    let Ok(n) = store_names(block, places) else {
+        // A malformed block, which headers refuse with 5, is a breach as any other.
+        return Err(Unfit::Breach);
     };
-    if places.len() / 2 < n {
-        return Storing::Full;
+    if places.len() < n {
+        return Err(Unfit::Full);
     }
-    if !stored_differ(block, places, n) {
-        return Storing::Done(Named::Breach);
+    let names = Names::new(block, &places[..n]);
+    if !names.differ() {
+        return Err(Unfit::Breach);
     }
-    Storing::Done(Named::Headers(n))
+    Ok(names)
 }

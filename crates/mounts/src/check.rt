@@ -4,9 +4,10 @@ ghost use Rattle.octets.specs.Outcome.{is_good, then};
 ghost use Rattle.headers.specs.Block.{parsed, well_formed};
 ghost use Rattle.mounts.specs.Mounts.{mounts_from, mounts_of};
 
-use crate::blocks::{Named, Storing, store_block};
-use crate::value::{Value, read_value};
-use headers::block::{HeaderPlace, header_at};
+use crate::blocks::store_block;
+use crate::value::read_value;
+use headers::block::header_at;
+use octets::span::Span;
 
 // Whether each header of a well formed block is a mount.
 fn all_mounts(block: &[u8]) -> bool
@@ -14,27 +15,17 @@ fn all_mounts(block: &[u8]) -> bool
     ensures { result ≡ is_good (then (parsed block.now) (mounts_from 0)) }
 {
     let mut i: usize = 0;
+    // A while: headers have lengths of their own, so that the steps vary.
     while i < block.len() {
-        let h = header_at(block, i);
-        let HeaderPlace::At {
-            name_end,
-            value_end,
-        } = h
-        else {
-            // Does not come: the block is well formed.
-            return false;
-        };
-        if block[i] != b'/' {
+        // The block is well formed, so that the header is there.
+        let h = header_at(block, i).unwrap();
+        if block[i] != b'/' || block[h.name_end - 1] == b'/' {
             return false;
         }
-        if block[name_end - 1] == b'/' {
+        if read_value(&block[h.name_end + 1..h.value_end]).is_none() {
             return false;
         }
-        let v = read_value(&block[name_end + 1..value_end]);
-        let Value::Pool { len: _, limit: _ } = v else {
-            return false;
-        };
-        i = value_end + 1;
+        i = h.value_end + 1;
     }
     true
 }
@@ -43,14 +34,7 @@ fn all_mounts(block: &[u8]) -> bool
 pub fn is_mounts(block: &[u8]) -> bool
     ensures { result ≡ is_good (mounts_of block.now) }
 {
-    let mut places = [0usize; 64];
-    let s = store_block(block, 4096, &mut places);
-    let Storing::Done(b) = s else {
-        // The list has room for the names of 32 entries.
-        return false;
-    };
-    let Named::Headers(_) = b else {
-        return false;
-    };
-    all_mounts(block)
+    // The list has room for the names of 32 entries.
+    let mut places = [Span { start: 0, len: 0 }; 32];
+    store_block(block, 4096, &mut places).is_ok() && all_mounts(block)
 }

@@ -1,40 +1,43 @@
-use mathlib.Core.Path.{◌≡◌, sym, ap, ◌∙◌}
-use mathlib.Core.Bool.{false}
+use Prim.Native.Nat.{ℕ}
+use mathlib.Core.Path.{◌≡◌, sym, ◌∙◌}
+use mathlib.Core.Bool.{true, false}
+use mathlib.Core.List.{List}
+use Rattle.std.proofs.Common.{Result, Ok, Err, is_ok}
+use Rattle.octets.specs.Outcome.{is_good}
+use Rattle.headers.specs.declared.names.Names.{Names}
 use Rattle.headers.proofs.Claims.{well-formed-headed}
-use Rattle.mounts.specs.Blocks.{BlockGood, lacks_room, storing_outcome}
-use Rattle.mounts.specs.declared.blocks.Storing.TheVariants.{Done}
+use Rattle.mounts.specs.Blocks.{BlockGood, lacks_room, BlockFound}
+use Rattle.mounts.specs.Mounts.{mounts_of}
+use Rattle.mounts.specs.declared.blocks.Unfit.{Unfit}
+use Rattle.mounts.specs.declared.blocks.Unfit.TheVariants.{Full, Breach}
 use Rattle.mounts.proofs.BlockSteps.{blocks-told}
 use Rattle.mounts.proofs.MountSteps.{too_many, bad-block, good-block}
 use Rattle.mounts.proofs.check.is_mounts.Goals as goal
-use Rattle.mounts.proofs.check.is_mounts.Goals.{In-Headers}
+use Rattle.mounts.proofs.check.is_mounts.Goals.{Then-is_ok}
 
 -- the block, where its names were stored
-good :
-    (c : In-Headers)
-    → (let b = c.args.block.now in
-    (lacks_room 4096 64 b ≡ false) × BlockGood 4096 b)
-good c =
-    let b = c.args.block.now in
-    let e = c.in-Done.is ∙ ap Done c.in-Headers.is in
-    blocks-told.good 4096 64 b _ (ap storing_outcome (sym e) ∙ c.store_block-s.ensures.answer)
+stored : (b : List ℕ) (r : Result Names Unfit) → BlockFound 4096 32 b r → is_ok r ≡ true → (lacks_room 4096 32 b ≡ false) × BlockGood 4096 b
+stored b (Ok names) f e = blocks-told.good 4096 32 b _ f.answer
+stored b (Err u) f e = cc
 
-pub returns-in_default : goal.returns-in_default
-returns-in_default c =
-    let b = c.args.block.now in
-    sym (too_many b (blocks-told.full 4096 64 b (ap storing_outcome (sym c.in_default.is) ∙ c.store_block-s.ensures.answer)))
+-- .. and where they were not
+unfit : (b : List ℕ) (r : Result Names Unfit) → BlockFound 4096 32 b r → is_ok r ≡ false → false ≡ is_good (mounts_of b)
+unfit b (Ok names) f e = cc
+unfit b (Err Full) f e = sym (too_many b (blocks-told.full 4096 32 b f.answer))
+unfit b (Err Breach) f e = sym (bad-block b (blocks-told.breach 4096 32 b f.answer).1)
 
-pub returns-in_default-b : goal.returns-in_default-b
-returns-in_default-b c =
-    let b = c.args.block.now in
-    let e = c.in-Done.is ∙ ap Done c.in_default-b.is in
-    sym (bad-block b (blocks-told.breach 4096 64 b (ap storing_outcome (sym e) ∙ c.store_block-s.ensures.answer)).1)
+good : (c : Then-is_ok) → (let b = c.args.block.now in (lacks_room 4096 32 b ≡ false) × BlockGood 4096 b)
+good c = stored _ c.store_block.result c.store_block.ensures (sym c.is_ok.ensures.value ∙ c.if-is_ok.true)
 
 pub all_mounts-requires : goal.all_mounts-requires
 all_mounts-requires c =
     let g = (good c).1 in
     (well-formed-headed _).1 (record { hs = g.hs; is = g.headers })
 
-pub returns : goal.returns
-returns c =
-    let g = good (goal.at.returns c).In-Headers in
+pub returns-then-is_ok : goal.returns-then-is_ok
+returns-then-is_ok c =
+    let g = good (goal.at.returns-then-is_ok c).Then-is_ok in
     c.all_mounts.ensures ∙ good-block _ g.0 g.1
+
+pub returns-else-is_ok : goal.returns-else-is_ok
+returns-else-is_ok c = c.if-is_ok.false ∙ unfit _ c.store_block.result c.store_block.ensures (sym c.is_ok.ensures.value ∙ c.if-is_ok.false)
