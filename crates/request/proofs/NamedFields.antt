@@ -1,18 +1,19 @@
 -- Laws of the fields of one name among stored fields.
 -- Assumes nothing.
-use Prim.Native.Nat.{ℕ, suc, ◌+◌, ◌≤◌}
+use Prim.Native.Nat.{ℕ, suc, ◌+◌, ◌≤◌, ◌<◌}
 use Prim.{absurd}
-use mathlib.Core.Path.{◌≡◌, refl, sym, ap, ◌∙◌}
+use mathlib.Core.Path.{◌≡◌, refl, sym, ap}
 use mathlib.Core.Bool.{Bool, true, false, cond}
 use mathlib.Core.List.{List, [], ◌∷◌, ◌++◌, map, append-nil}
 use Rattle.std.proofs.Common.{Option, None, Some}
 use Rattle.std.specs.Option.{option_or}
 use native.Mathlib.Omega.{arith}
-use lib.ListN.{length, length-append}
+use lib.ListN.{length, drop, get_or, length-append, drop_of_length-le}
 use lib.Seq.{append_snoc}
+use Rattle.std.proofs.lemmas.List.{at_drop_more}
 use Rattle.octets.specs.Compare.{lower_of, same_letters}
 use Rattle.octets.specs.declared.span.Span.{Span}
-use Rattle.http_head.specs.Fields.{part_at, field_in, fields_at, InHead, AllInside}
+use Rattle.http_head.specs.Fields.{part_at, field_in, fields_at, nowhere, InHead, AllInside}
 use Rattle.http_head.specs.declared.fields.Field.{Field as Spans}
 use Rattle.request.specs.Named.{lowered, values_of, first_found}
 use Rattle.request.specs.Rules.{with_field, found_from, found_of}
@@ -70,3 +71,15 @@ module _ (head : List ℕ) where
     -- what is found of fields
     pub found_in : (ps : List Spans) → AllInside head ps → FoundIn head (values_of (map lower_of name) (lowered (fields_at head ps))) (found_of name head ps)
     found_in ps i = found-behind ps i (record { count = 0; first = None }) [] (record { count_is = refl; first_is = refl; inside = tt })
+
+    -- one field after the other
+    module _ (seen : Found) (ps : List Spans) (k : ℕ) where
+      pub found-next :
+          k < length ps
+          → found_from name head seen (drop k ps) ≡ found_from name head (with_field name head (get_or ps k nowhere) seen) (drop (k + 1) ps)
+      unfolding found_from
+      found-next h = at_drop_more (found_from name head seen) ps k nowhere h
+
+      pub found-end : length ps ≤ k → found_from name head seen (drop k ps) ≡ seen
+      unfolding found_from
+      found-end h = ap (found_from name head seen) (drop_of_length-le ps h)

@@ -4,7 +4,7 @@ use Prim.Native.Nat.{ℕ, min, ◌+◌, ◌-◌, ◌≤◌}
 use Prim.{absurd}
 use mathlib.Core.Path.{◌≡◌, refl, sym, ap, ◌∙◌}
 use mathlib.Core.Bool.{Bool, true, false, cond, ◌||◌, false≢true}
-use mathlib.Core.List.{List, [], ◌∷◌}
+use mathlib.Core.List.{List, []}
 use Rattle.std.proofs.Common.{Ok, Err}
 use native.Mathlib.Omega.{arith}
 use lib.ListN.{length, take, drop, length-take, length-drop}
@@ -242,7 +242,7 @@ chain head (gives first) F G R = by (F first) G
         (λ s. then (then G (λ fields. then (R s.first.version fields) (λ n. gives (record { fields = fields; body_length = n })))) (λ g. gives (placed_by head s g)))
     by (refused n) G = refl
     by (gives target) (refused n) = refl
-    by (gives target) (gives fields) = rules target fields (R first.version fields)
+    by (gives target) (gives fs) = rules target fs (R first.version fs)
 
 module _ (head : List ℕ) where
   whole :

@@ -4,7 +4,7 @@ use Prim.Native.Nat.{ℕ, ◌+◌, ◌≤◌}
 use mathlib.Core.Path.{◌≡◌, refl, sym, ap, ◌∙◌}
 use mathlib.Core.List.{List, [], ◌∷◌}
 use native.Mathlib.Omega.{arith}
-use lib.Dec.{eqb, leb, ltb}
+use lib.Dec.{eqb, leb}
 use lib.ListN.{length, take, drop, length-take, length-append}
 use lib.Seq.{take_at}
 use Rattle.octets.specs.Text.{bytes}
@@ -18,10 +18,10 @@ use Rattle.octets.proofs.Outcomes.{gives-once, then-gives}
 use Rattle.octets.proofs.Refusals.{Refuses, with_number, not_refused, number-of, refuses-within, refuses-only, refuses-then, refuses-need, refuses-given}
 use Rattle.http_head.specs.Lines.{lines_of, line_run}
 use Rattle.http_head.specs.RequestLine.{FirstLine, request_line_of, version_text, line_places}
-use Rattle.octets.specs.Refusal.{number_of}
+use Rattle.octets.specs.Refusal.{number_of as number_for}
 use Rattle.octets.specs.declared.refusal.Refusal.{Refusal}
 use Rattle.std.proofs.Common.{Ok, Err}
-use Rattle.http_head.specs.Fields.{Field, fields_of, places_of, with_front, part_at, fields_at, Stored}
+use Rattle.http_head.specs.Fields.{Field, fields_of, places_of, with_front, fields_at, Stored}
 use Rattle.http_head.specs.declared.fields.Field.{Field as Spans}
 use Rattle.http_head.specs.Claims.{LineStands, FieldsStand}
 use Rattle.http_head.proofs.Claims as Http
@@ -34,7 +34,7 @@ use Rattle.targets.proofs.Claims.{targets-obey, targets-told}
 use Rattle.request.specs.Named.{lowered, values_of}
 use Rattle.request.specs.Request.{host_right, stated_by, content_of, rules_of, Request, request_of}
 use Rattle.request.specs.Rules.{found_of}
-use Rattle.request.specs.RequestRead.{target_in, placed_in, RequestRead, line_in, path_in, part_if, PartInside, LineKnown, FieldsKnown}
+use Rattle.request.specs.RequestRead.{target_in, placed_in, RequestRead, line_in, path_in, part_if, LineKnown, FieldsKnown}
 use Rattle.request.specs.Claims.{Obeys, RequestStands, request_numbers, NumbersHold}
 use Rattle.request.specs.declared.read.LinePlaces.{LinePlaces}
 use Rattle.request.specs.declared.read.FieldPlaces.{FieldPlaces}
@@ -110,8 +110,8 @@ front-inside d w = simp length-append (omega arith)
 
 pub refuses :
     (head : List ℕ) (places places' : List Spans) (path path' : List ℕ) (e : Refusal) → RequestRead head places places' path path' (Err e)
-    → refused (number_of e) ≡ request_of head
-refuses head places places' path path' e r = sym (refused-so (request_of head) (placed_in head) (number_of e) r.answer)
+    → refused (number_for e) ≡ request_of head
+refuses head places places' path path' e r = sym (refused-so (request_of head) (placed_in head) (number_for e) r.answer)
 
 -- of a request q, whose parts' places are l and f
 module _ (head : List ℕ) (places places' : List Spans) (path path' : List ℕ) (q : Request) (gave : request_of head ≡ gives q) where

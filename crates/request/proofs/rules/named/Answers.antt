@@ -1,1 +1,54 @@
+use mathlib.Core.Path.{◌≡◌, refl, sym, ap, ◌∙◌}
+use Prim.Native.Nat.{◌+◌}
+use native.Mathlib.Omega.{arith}
+use borrow.Author.Rules.{rules}
+use lib.ListN.{drop, get_or}
+use Rattle.octets.specs.Compare.{same_letters}
+use Rattle.http_head.specs.Fields.{field_in, nowhere}
+use Rattle.request.specs.Rules.{with_field, found_from}
+use Rattle.request.specs.declared.rules.Found.{Found}
+use Rattle.request.proofs.NamedFields.{found-next, found-end}
 use Rattle.request.proofs.rules.named.Goals as goal
+use Rattle.request.proofs.rules.named.Goals.{Joined-same_letters, then-same_letters, else-same_letters}
+
+-- whether the field has the name
+told :
+    (c : Joined-same_letters)
+    → (let a = c.args in
+    same_letters (field_in a.fields.head.now (get_or a.fields.places.now c.loop-field.field-index nowhere)).name a.name.now ≡ c.same_letters.result)
+told c = sym (c.same_letters.ensures ∙ ap (λ s. same_letters s c.args.name.now) c.of.ensures.0)
+
+-- what was found, with the field
+seen :
+    (c : Joined-same_letters)
+    → (let a = c.args in
+    with_field a.name.now a.fields.head.now (get_or a.fields.places.now c.loop-field.field-index nowhere) c.loop-field.found ≡ c.if-same_letters.found)
+seen c =
+    elim c.if-same_letters.branch [
+      | then-same_letters w ↦
+          rw (told c ∙ w.if-same_letters.true)
+          (sym (w.found-is ∙ ap (λ o. record { count = c.loop-field.found.count + 1; first = o }) w.or.ensures))
+      | else-same_letters w ↦ rw (told c ∙ w.if-same_letters.false) (sym w.found-is)
+    ]
+
+pub loop-field-init : goal.loop-field-init
+loop-field-init c = (search rules, refl)
+
+pub overflow_add-found : goal.overflow_add-found
+overflow_add-found c = omega (arith, c.loop-field.invariant.0, c.ranges.fields)
+
+pub loop-field-preserved : goal.loop-field-preserved
+loop-field-preserved c =
+    let a = c.args in
+    let k = c.loop-field.field-index in (
+      elim c.if-same_letters.branch [
+        | then-same_letters w ↦ omega (arith, c.loop-field.invariant.0, ap (λ (f : Found). f.count) w.found-is)
+        | else-same_letters w ↦ omega (arith, c.loop-field.invariant.0, ap (λ (f : Found). f.count) w.found-is)
+      ],
+      c.loop-field.invariant.1
+          ∙ found-next _ _ _ _ _ c.loop-field-test.true
+          ∙ ap (λ f. found_from a.name.now a.fields.head.now f (drop (k + 1) a.fields.places.now)) (seen (goal.at.loop-field-preserved c).Joined-same_letters),
+    )
+
+pub returns : goal.returns
+returns c = sym (c.loop-field.invariant.1 ∙ found-end _ _ _ c.args.fields.places.now c.loop-field.field-index (omega arith))
