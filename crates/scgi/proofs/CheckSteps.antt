@@ -5,7 +5,9 @@ use Prim.Native.Nat.{ℕ, ◌+◌, ◌-◌, ◌≤◌, ◌<◌}
 use mathlib.Core.Path.{◌≡◌, refl, sym, ap, ◌∙◌}
 use mathlib.Core.Bool.{Bool, true, false, cond, ◌&&◌, ◌||◌}
 use mathlib.Core.List.{List, [], ◌∷◌}
-use Rattle.std.proofs.Common.{Option, None, Some}
+use Rattle.std.proofs.Common.{Option, None, Some, Result, Ok, Err}
+use Rattle.std.specs.Option.{ok_or}
+use Rattle.std.specs.Result.{IsOk}
 use native.Mathlib.Nat.{sub-zero}
 use native.Mathlib.Omega.{arith}
 use lib.Dec.{leb}
@@ -16,22 +18,32 @@ use Rattle.octets.specs.Outcome.{Outcome, refused, gives, then, need, given}
 use Rattle.octets.specs.Compare.{same_bytes}
 use Rattle.octets.specs.Lists.{All, ◌&◌, different, Different, one_more}
 use Rattle.octets.specs.Decimal.{number_of}
+use Rattle.octets.specs.Refusal.{outcome}
+use Rattle.octets.specs.Refusal.{number_of as number_of_refusal}
+use Rattle.octets.specs.declared.refusal.Refusal.{Refusal}
+use Rattle.octets.specs.declared.span.Span.{Span}
 use Rattle.octets.proofs.Bools.{or-false}
 use Rattle.octets.proofs.Compares.{same_true, same_false}
 use Rattle.octets.proofs.Names.{test-different}
 use Rattle.octets.proofs.Outcomes.{then-gives}
-use Rattle.headers.specs.Block.{Header, names, parsed, well_formed, count_of, header_in, HeaderFound}
+use Rattle.headers.specs.Block.{Header, names, parsed, well_formed, count_of, header_in, header_ends, header_outcome, HeaderFound}
+use Rattle.headers.specs.declared.block.HeaderPlace.{HeaderPlace}
 use Rattle.scgi.specs.Grammar.{scgi1}
-use Rattle.headers.specs.Lookup.{Part, part_option, value_in, lookup_of}
+use Rattle.headers.specs.Lookup.{part_option, value_in, lookup_of}
 use Rattle.scgi.specs.Check.{stated_by, stated_in, has, has_scgi, rest_of, check_block}
 use Rattle.headers.specs.Claims.{Headed}
-use Rattle.headers.proofs.Claims.{well-formed-headed, headers-few, lookup-finds-value}
+use Rattle.headers.proofs.Claims.{well-formed-headed, headers-few, lookup-finds-value, header-parses}
 
 -- The stated length.
 
 -- the length that a block with a first header states
 abbrev pub first_states : List ℕ → ℕ → ℕ → Outcome ℕ
 first_states b n v = need (same_bytes (take n b) (bytes "CONTENT_LENGTH")) 8 (given (number_of (take (v - (n + 1)) (drop (n + 1) b))) 8)
+
+-- a value, or the refusal where there is none
+pub given-or : (o : Option ℕ) (e : Refusal) → outcome (λ n. n) (ok_or o e) ≡ given o (number_of_refusal e)
+given-or None e = refl
+given-or (Some n) e = refl
 
 headed : (b : List ℕ) → well_formed b ≡ true → Headed b
 headed b = (well-formed-headed b).0
@@ -54,10 +66,14 @@ module _ (b : List ℕ) (w : well_formed b ≡ true) where
       ap (λ (o : Outcome (List Header)). then o stated_by) (p.is ∙ sym g.next) ∙ rw (sub-zero n)
 
   -- a first header is found where there are bytes
-  pub never-unheaded : {A : Type 0} {o : A} {e : A} (n : ℕ) → HeaderFound b 0 (refused n) → o ≡ e
-  never-unheaded n h =
+  pub first-found : (r : Result HeaderPlace Refusal) → header_outcome r ≡ header_ends b 0 → 0 < length b → HeaderFound b 0 (header_outcome r)
+  first-found r e h = rw e (header-parses b 0 h)
+
+  pub first-is : (r : Result HeaderPlace Refusal) → HeaderFound b 0 (header_outcome r) → IsOk r
+  first-is (Ok p) h = refl
+  first-is (Err n) h =
       let p = headed b w in
-      let e : refused n ≡ gives p.hs = h.answer ∙ p.is in
+      let e : refused (number_of_refusal n) ≡ gives p.hs = h.answer ∙ p.is in
       cc
 
 -- The header SCGI.
@@ -104,7 +120,7 @@ module _ (b : List ℕ) (d : then (parsed b) (λ hs. gives (different (names hs)
       (well-formed-headed b).1 (record { hs = p.hs; is = p.is })
 
   -- what the place of SCGI's value says
-  pub scgi-at : (o : Option Part) → lookup_of b (bytes "SCGI") ≡ gives o → has_scgi b ≡ gives (is_value (part_option b o) (bytes "1"))
+  pub scgi-at : (o : Option Span) → lookup_of b (bytes "SCGI") ≡ gives o → has_scgi b ≡ gives (is_value (part_option b o) (bytes "1"))
   scgi-at o e =
       let p = differ b d in
       rw p.is

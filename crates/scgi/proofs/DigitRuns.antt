@@ -12,7 +12,8 @@ use lib.ListN.{length}
 use borrow.Author.Tests.{ltb-true, ltb-false}
 use Rattle.octets.specs.Outcome.{Outcome, gives, then, need}
 use Rattle.octets.specs.Kinds.{is_digit}
-use Rattle.scgi.specs.Digits.{NetDigits, digits_from}
+use Rattle.scgi.specs.Digits.{digits_from}
+use Rattle.scgi.specs.declared.netstring.Digits.{Digits}
 use Rattle.scgi.specs.Claims.{DigitsWithin, go_on, DigitsGoOn}
 use Rattle.scgi.proofs.LengthDigits.{length-digits}
 use Rattle.scgi.proofs.Lengths.{Digit, step, not-zero, length-said}
@@ -26,7 +27,7 @@ two_runs (b ∷ s) t n v =
     (digits_from (n + 1) (v * 10 + (b - 48)) s) (two_runs s t (n + 1) (v * 10 + (b - 48)))
   where
     by :
-        (k u d m : Bool) (r q : Outcome NetDigits) → r ≡ then q (go_on t)
+        (k u d m : Bool) (r q : Outcome Digits) → r ≡ then q (go_on t)
         → cond k (need u 2 (gives (record { count = n; value = v; colon = true }))) (need d 2 (need m 3 r))
         ≡ then (cond k (need u 2 (gives (record { count = n; value = v; colon = true }))) (need d 2 (need m 3 q))) (go_on t)
     by true true d m r q e = refl
@@ -36,7 +37,7 @@ two_runs (b ∷ s) t n v =
     by false u false m r q e = refl
 
 -- one byte less
-shift : (n len : ℕ) (d : NetDigits) → DigitsWithin (n + 1) len d → DigitsWithin n (suc len) d
+shift : (n len : ℕ) (d : Digits) → DigitsWithin (n + 1) len d → DigitsWithin n (suc len) d
 shift n len d w =
     record {
       few = w.few;
@@ -47,14 +48,14 @@ shift n len d w =
     }
 
 -- a digit more, which is no leading 0
-few-more : (n v b : ℕ) (rest : Outcome NetDigits) (d : NetDigits) → n ≤ v + 1 → Digit n v b rest d → n + 1 ≤ v * 10 + (b - 48) + 1
+few-more : (n v b : ℕ) (rest : Outcome Digits) (d : Digits) → n ≤ v + 1 → Digit n v b rest d → n + 1 ≤ v * 10 + (b - 48) + 1
 few-more n v b rest d few x = by (ltb 0 n) refl
   where
     by : (t : Bool) → ltb 0 n ≡ t → n + 1 ≤ v * 10 + (b - 48) + 1
     by true e = omega (arith, not-zero n v (ltb-true 0 n e) x.no_leading)
     by false e = omega (arith, ltb-false 0 n e)
 
-pub digits-within : (s : List ℕ) (n v : ℕ) (d : NetDigits) → n ≤ v + 1 → v ≤ 16384 → digits_from n v s ≡ gives d → DigitsWithin n (length s) d
+pub digits-within : (s : List ℕ) (n v : ℕ) (d : Digits) → n ≤ v + 1 → v ≤ 16384 → digits_from n v s ≡ gives d → DigitsWithin n (length s) d
 unfolding digits_from
 digits-within [] n v d few small e =
     let x : d ≡ record { count = n; value = v; colon = false } = cc in

@@ -7,11 +7,13 @@ use mathlib.Core.List.{List, [], ◌∷◌}
 use lib.Dec.{eqb, leb, ltb}
 use Rattle.octets.specs.Outcome.{Outcome, gives, then, need}
 use Rattle.octets.specs.Kinds.{is_digit}
-use Rattle.scgi.specs.Netstring.{NetLength, length_step, length_from, length_of}
-use Rattle.scgi.specs.Digits.{NetDigits, digit_step, digits_from, length_by}
+use Rattle.scgi.specs.Netstring.{length_step, length_from, length_of}
+use Rattle.scgi.specs.declared.netstring.Length.{Length}
+use Rattle.scgi.specs.Digits.{digit_step, digits_from, length_by}
+use Rattle.scgi.specs.declared.netstring.Digits.{Digits}
 
 -- one step of either, where the rest agrees
-step-digits : (i v b : ℕ) (x : Outcome NetLength) (y : Outcome NetDigits) → x ≡ then y length_by → length_step i v b x ≡ then (digit_step i v b y) length_by
+step-digits : (i v b : ℕ) (x : Outcome Length) (y : Outcome Digits) → x ≡ then y length_by → length_step i v b x ≡ then (digit_step i v b y) length_by
 step-digits i v b x y e = by (eqb b 58) (ltb 0 i) (is_digit b && not (ltb 0 i && eqb v 0)) (leb (v * 10 + (b - 48)) 16384)
   where
     by :

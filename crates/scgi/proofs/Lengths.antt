@@ -19,8 +19,10 @@ use Rattle.octets.proofs.Outcomes.{need-gives, then-gives}
 use Rattle.octets.proofs.Decimals.{digits, digits_append, one_digit_more, first-digit, decimal-some}
 use Rattle.scgi.specs.Claims.{LengthSaid}
 use Rattle.scgi.proofs.LengthDigits.{length-digits}
-use Rattle.scgi.specs.Digits.{NetDigits, digit_step, digits_from, length_by}
-use Rattle.scgi.specs.Netstring.{NetLength, length_of}
+use Rattle.scgi.specs.Digits.{digit_step, digits_from, length_by}
+use Rattle.scgi.specs.declared.netstring.Digits.{Digits}
+use Rattle.scgi.specs.Netstring.{length_of}
+use Rattle.scgi.specs.declared.netstring.Length.{Length}
 
 -- What is written is read.
 
@@ -68,7 +70,7 @@ led n s m =
     n n s (omega arith) m
 
 -- the length n, as it stands in decimal before a colon
-abbrev pub length_at : ℕ → NetLength
+abbrev pub length_at : ℕ → Length
 length_at n = record { len = n; next = length (decimal n) + 1 }
 
 at-colon : (i n : ℕ) (s : List ℕ) → 0 < i → digits_from i n (58 ∷ s) ≡ gives (record { count = i; value = n; colon = true })
@@ -82,23 +84,23 @@ read-decimal n s m =
     let i : length (digits_in n n (58 ∷ s)) - suc (length s) ≡ length (decimal n) = omega (arith, simp length-append at (ap length a)) in
     let c : digits_from 0 0 (digits_in n n (58 ∷ s)) ≡ gives (record { count = length (decimal n); value = n; colon = true }) =
     r.to ∙ rw i (at-colon (length (decimal n)) n s (decimal-some n)) in
-    ap length_of (sym a) ∙ length-digits (digits_in n n (58 ∷ s)) ∙ ap (λ (o : Outcome NetDigits). then o length_by) c
+    ap length_of (sym a) ∙ length-digits (digits_in n n (58 ∷ s)) ∙ ap (λ (o : Outcome Digits). then o length_by) c
 
 -- What is read was written.
 
-pub record Colon (i v b : ℕ) (d : NetDigits) : Type 0 where
+pub record Colon (i v b : ℕ) (d : Digits) : Type 0 where
   pub is : b ≡ 58
   pub after : 0 < i
   pub gave : d ≡ record { count = i; value = v; colon = true }
 
-pub record Digit (i v b : ℕ) (rest : Outcome NetDigits) (d : NetDigits) : Type 0 where
+pub record Digit (i v b : ℕ) (rest : Outcome Digits) (d : Digits) : Type 0 where
   pub low : 48 ≤ b
   pub high : b ≤ 57
   pub no_leading : ltb 0 i && eqb v 0 ≡ false
   pub small : v * 10 + (b - 48) ≤ 16384
   pub next : rest ≡ gives d
 
-pub step : (i v b : ℕ) (rest : Outcome NetDigits) (d : NetDigits) → digit_step i v b rest ≡ gives d → Colon i v b d ⊎ Digit i v b rest d
+pub step : (i v b : ℕ) (rest : Outcome Digits) (d : Digits) → digit_step i v b rest ≡ gives d → Colon i v b d ⊎ Digit i v b rest d
 unfolding is_digit
 step i v b rest d e = by (eqb b 58) refl e
   where
@@ -126,7 +128,7 @@ step i v b rest d e = by (eqb b 58) refl e
         })
 
 -- the digits of v in front of s are those of the number that is read, a colon, and the rest
-record Said (i v : ℕ) (s : List ℕ) (d : NetDigits) : Type 0 where
+record Said (i v : ℕ) (s : List ℕ) (d : Digits) : Type 0 where
   rest : List ℕ
   is : digits_in v v s ≡ digits_in d.value d.value (58 ∷ rest)
   count : i + length s ≡ d.count + 1 + length rest
@@ -135,11 +137,11 @@ record Said (i v : ℕ) (s : List ℕ) (d : NetDigits) : Type 0 where
 pub not-zero : (i v : ℕ) → 0 < i → ltb 0 i && eqb v 0 ≡ false → 0 < v
 not-zero i v h e = let f : eqb v 0 ≡ false = rw (lt-ltb 0 i h) at e in omega (arith, eqb-false v 0 f)
 
-said : (s : List ℕ) (i v : ℕ) (d : NetDigits) → 0 < i → v ≤ 16384 → d.colon ≡ true → digits_from i v s ≡ gives d → Said i v s d
+said : (s : List ℕ) (i v : ℕ) (d : Digits) → 0 < i → v ≤ 16384 → d.colon ≡ true → digits_from i v s ≡ gives d → Said i v s d
 unfolding digits_from
 said [] i v d h m k e =
     let x : record { count = i; value = v; colon = false } ≡ d = cc in
-    absurd (false≢true (ap (λ (y : NetDigits). y.colon) x ∙ k))
+    absurd (false≢true (ap (λ (y : Digits). y.colon) x ∙ k))
 said (b ∷ s) i v d h m k e =
     ⊎_elim
     (λ c. rw (c.gave, c.is) (record { rest = s; is = refl; count = omega arith; small = m }))
@@ -154,20 +156,20 @@ said (b ∷ s) i v d h m k e =
     (step i v b (digits_from (i + 1) (v * 10 + (b - 48)) s) d e)
 
 -- the length stands in decimal before a colon
-pub record Written (s : List ℕ) (l : NetLength) : Type 0 where
+pub record Written (s : List ℕ) (l : Length) : Type 0 where
   pub rest : List ℕ
   pub is : s ≡ decimal l.len ++ 58 ∷ rest
   pub at : l ≡ length_at l.len
   pub small : l.len ≤ 16384
 
 -- .. where the digits are d
-record Digited (s : List ℕ) (d : NetDigits) : Type 0 where
+record Digited (s : List ℕ) (d : Digits) : Type 0 where
   rest : List ℕ
   is : s ≡ decimal d.value ++ 58 ∷ rest
   count : d.count ≡ length (decimal d.value)
   small : d.value ≤ 16384
 
-from_first : (b : ℕ) (s : List ℕ) (d : NetDigits) → d.colon ≡ true → Digit 0 0 b (digits_from (0 + 1) (0 * 10 + (b - 48)) s) d → Digited (b ∷ s) d
+from_first : (b : ℕ) (s : List ℕ) (d : Digits) → d.colon ≡ true → Digit 0 0 b (digits_from (0 + 1) (0 * 10 + (b - 48)) s) d → Digited (b ∷ s) d
 from_first b s d k x =
     let z : 0 * 10 + (b - 48) ≡ b - 48 = omega arith in
     let low : 48 ≤ b = x.low in
@@ -177,45 +179,45 @@ from_first b s d k x =
     let c : 1 + length s ≡ d.count + 1 + length r.rest = r.count in
     record { rest = r.rest; is = w; count = omega (arith, simp length-append at (ap length w)); small = r.small }
 
-digited : (s : List ℕ) (d : NetDigits) → d.colon ≡ true → digits_from 0 0 s ≡ gives d → Digited s d
+digited : (s : List ℕ) (d : Digits) → d.colon ≡ true → digits_from 0 0 s ≡ gives d → Digited s d
 unfolding digits_from
 digited [] d k e =
     let x : record { count = 0; value = 0; colon = false } ≡ d = cc in
-    absurd (false≢true (ap (λ (y : NetDigits). y.colon) x ∙ k))
+    absurd (false≢true (ap (λ (y : Digits). y.colon) x ∙ k))
 digited (b ∷ s) d k e =
     ⊎_elim (λ c. absurd (omega (arith, c.after))) (from_first b s d k) (step 0 0 b (digits_from (0 + 1) (0 * 10 + (b - 48)) s) d e)
 
-pub length-said : (s : List ℕ) (l : NetLength) → length_of s ≡ gives l → LengthSaid s l
+pub length-said : (s : List ℕ) (l : Length) → length_of s ≡ gives l → LengthSaid s l
 length-said s l e =
     let a = then-gives (digits_from 0 0 s) length_by l (sym (length-digits s) ∙ e) in
-    let d : NetDigits = a.it in
+    let d : Digits = a.it in
     let b = need-gives d.colon 1 (gives (record { len = d.value; next = d.count + 1 })) l a.next in
     let x : gives (record { len = d.value; next = d.count + 1 }) ≡ gives l = b.1 in
     record { digits = d; read = a.first; colon = b.0; is = cc }
 
-pub written : (s : List ℕ) (l : NetLength) → length_of s ≡ gives l → Written s l
+pub written : (s : List ℕ) (l : Length) → length_of s ≡ gives l → Written s l
 written s l e =
     let a = length-said s l e in
-    let d : NetDigits = a.digits in
+    let d : Digits = a.digits in
     let w = digited s d a.colon a.read in
     rw a.is
     (record {
       rest = w.rest;
       is = w.is;
-      at = ap {B = NetLength} (λ (n : ℕ). record { len = d.value; next = n + 1 }) w.count;
+      at = ap {B = Length} (λ (n : ℕ). record { len = d.value; next = n + 1 }) w.count;
       small = w.small;
     })
 
 -- bounds, for code that goes on from a length that was read
-pub record Bounded (s : List ℕ) (l : NetLength) : Type 0 where
+pub record Bounded (s : List ℕ) (l : Length) : Type 0 where
   pub small : l.len ≤ 16384
   pub some : 1 < l.next
   pub within : l.next ≤ length s
 
-pub length-bounds : (s : List ℕ) (l : NetLength) → length_of s ≡ gives l → Bounded s l
+pub length-bounds : (s : List ℕ) (l : Length) → length_of s ≡ gives l → Bounded s l
 length-bounds s l e =
     let w = written s l e in
-    let n : l.next ≡ length (decimal l.len) + 1 = ap (λ (x : NetLength). x.next) w.at in
+    let n : l.next ≡ length (decimal l.len) + 1 = ap (λ (x : Length). x.next) w.at in
     record {
       small = w.small;
       some = omega (arith, decimal-some l.len);

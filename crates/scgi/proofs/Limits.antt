@@ -14,16 +14,17 @@ use Rattle.octets.specs.Decimal.{decimal}
 use Rattle.octets.proofs.Decimals.{five-digits}
 use Rattle.framing.specs.Spool.{Ending, whole, cut, refused_by, full, total}
 use Rattle.framing.proofs.SpoolSteps.{LeftOver, left_over}
-use Rattle.scgi.specs.Digits.{NetDigits, digits_from, length_by}
-use Rattle.scgi.specs.Netstring.{NetLength, length_of}
+use Rattle.scgi.specs.Digits.{digits_from, length_by}
+use Rattle.scgi.specs.declared.netstring.Digits.{Digits}
+use Rattle.scgi.specs.Netstring.{length_of}
+use Rattle.scgi.specs.declared.netstring.Length.{Length}
 use Rattle.scgi.proofs.DigitRuns.{digits-within}
 use Rattle.scgi.proofs.LengthDigits.{length-digits}
 use Rattle.scgi.specs.Check.{check_block}
 use Rattle.scgi.specs.Read.{Places, places_at, read_of, used_of}
 use Rattle.scgi.specs.Spool.{requests_of}
-use Rattle.scgi.specs.Window.{next_of, largest}
+use Rattle.scgi.specs.Window.{more, again, ends, next_of, largest}
 use Rattle.scgi.specs.Claims.{LargestRequest}
-use Rattle.scgi.specs.declared.window.Next.TheVariants.{More, Again, Refused as NextRefused}
 use Rattle.scgi.proofs.Reader.{spools-hold}
 use Rattle.scgi.proofs.Lengths.{written}
 use Rattle.scgi.proofs.Checks.{check-bound}
@@ -34,14 +35,14 @@ use Rattle.scgi.proofs.Numbers.{block-numbers, digit-numbers}
 cut-length : (s : List ℕ) → length_of s ≡ refused 1 → length s ≤ 16385
 cut-length s e = by (digits_from 0 0 s) refl (sym (length-digits s) ∙ e)
   where
-    by : (o : Outcome NetDigits) → digits_from 0 0 s ≡ o → then o length_by ≡ refused 1 → length s ≤ 16385
+    by : (o : Outcome Digits) → digits_from 0 0 s ≡ o → then o length_by ≡ refused 1 → length s ≤ 16385
     by (refused k) q f =
         let g : refused k ≡ refused 1 = f in
         let z : ◌≡◌ {A = Bool} false true = digit-numbers s 0 0 1 (q ∙ cc) in
         absurd (false≢true z)
     by (gives d) q f = by-colon d.colon refl f
       where
-        by-colon : (t : Bool) → d.colon ≡ t → need {A = NetLength} t 1 (gives (record { len = d.value; next = d.count + 1 })) ≡ refused 1 → length s ≤ 16385
+        by-colon : (t : Bool) → d.colon ≡ t → need {A = Length} t 1 (gives (record { len = d.value; next = d.count + 1 })) ≡ refused 1 → length s ≤ 16385
         by-colon true c f = absurd (let z : ◌≡◌ {A = ℕ} 0 1 = cc in omega arith)
         by-colon false c f =
             let w = digits-within s 0 0 d (omega arith) (omega arith) q in
@@ -56,21 +57,21 @@ never-one b e =
     omega arith
 
 module _ (s : List ℕ) where
-  short-of : (l : NetLength) → length_of s ≡ gives l → l.next + l.len ≤ 16390
+  short-of : (l : Length) → length_of s ≡ gives l → l.next + l.len ≤ 16390
   short-of l e =
       let w = written s l e in
-      let n : l.next ≡ length (decimal l.len) + 1 = ap (λ (x : NetLength). x.next) w.at in
+      let n : l.next ≡ length (decimal l.len) + 1 = ap (λ (x : Length). x.next) w.at in
       let m : l.len ≤ 16384 = w.small in
       omega (arith, five-digits l.len (omega arith))
 
   by-body :
-      (l : NetLength) (n : ℕ) (t : Bool) → l.next + l.len ≤ 16390 → n ≤ 1048576 → leb (l.next + l.len + 1 + n) (length s) ≡ t
+      (l : Length) (n : ℕ) (t : Bool) → l.next + l.len ≤ 16390 → n ≤ 1048576 → leb (l.next + l.len + 1 + n) (length s) ≡ t
       → need t 1 (gives (places_at l n)) ≡ refused 1 → length s < 1064967
   by-body l n true h m q e = absurd (let z : ◌≡◌ {A = ℕ} 0 1 = cc in omega arith)
   by-body l n false h m q e = omega (arith, leb-false (l.next + l.len + 1 + n) (length s) q)
 
   by-block :
-      (l : NetLength) (o : Outcome ℕ) → l.next + l.len ≤ 16390 → check_block (take l.len (drop l.next s)) ≡ o
+      (l : Length) (o : Outcome ℕ) → l.next + l.len ≤ 16390 → check_block (take l.len (drop l.next s)) ≡ o
       → then o (λ n. need (leb (l.next + l.len + 1 + n) (length s)) 1 (gives (places_at l n))) ≡ refused 1 → length s < 1064967
   by-block l (refused k) h c e =
       let q : refused k ≡ refused 1 = e in
@@ -80,7 +81,7 @@ module _ (s : List ℕ) where
       by-body l n (leb (l.next + l.len + 1 + n) (length s)) h (check-bound (take l.len (drop l.next s)) n c) refl e
 
   by-comma :
-      (l : NetLength) (t u : Bool) → l.next + l.len ≤ 16390 → ltb (l.next + l.len) (length s) ≡ t
+      (l : Length) (t u : Bool) → l.next + l.len ≤ 16390 → ltb (l.next + l.len) (length s) ≡ t
       → need t 1
       (need u 4
       (then (check_block (take l.len (drop l.next s))) (λ n. need (leb (l.next + l.len + 1 + n) (length s)) 1 (gives (places_at l n)))))
@@ -91,7 +92,7 @@ module _ (s : List ℕ) where
   by-comma l true true h q e = by-block l (check_block (take l.len (drop l.next s))) h refl e
 
   by_length :
-      (o : Outcome NetLength) → length_of s ≡ o
+      (o : Outcome Length) → length_of s ≡ o
       → then o (λ l.
       need (ltb (l.next + l.len) (length s)) 1
       (need (eqb (get_or s (l.next + l.len) 0) 44) 4
@@ -120,7 +121,7 @@ used-cut s e = by (read_of s) e
         ap refused z
     by (gives p) q = cc
 
-pub left-short : (s : List ℕ) (room : ℕ) (t : Bool) → next_of t (requests_of s room).ending ≡ More → length s - total (requests_of s room).lengths < largest
+pub left-short : (s : List ℕ) (room : ℕ) (t : Bool) → next_of t (requests_of s room).ending ≡ more → length s - total (requests_of s room).lengths < largest
 left-short s room t q = by (requests_of s room).ending refl
   where
     lo : LeftOver used_of s (requests_of s room)
@@ -131,5 +132,5 @@ left-short s room t q = by (requests_of s room).ending refl
     by cut w =
         omega
         (arith, length-drop (total (requests_of s room).lengths) s, largest-request (drop (total (requests_of s room).lengths) s) (used-cut (drop (total (requests_of s room).lengths) s) (lo.at_cut w)))
-    by (refused_by n) w = absurd (let z : NextRefused n ≡ More = ap (next_of t) (sym w) ∙ q in let y : ◌≡◌ {A = ℕ} 0 1 = cc in omega arith)
-    by full w = absurd (let z : Again ≡ More = ap (next_of t) (sym w) ∙ q in let y : ◌≡◌ {A = ℕ} 0 1 = cc in omega arith)
+    by (refused_by n) w = absurd (let z : ends (refused_by n) ≡ more = ap (next_of t) (sym w) ∙ q in let y : ◌≡◌ {A = ℕ} 0 1 = cc in omega arith)
+    by full w = absurd (let z : again ≡ more = ap (next_of t) (sym w) ∙ q in let y : ◌≡◌ {A = ℕ} 0 1 = cc in omega arith)

@@ -17,7 +17,8 @@ use Rattle.octets.proofs.Refusals.{Refuses, with_number, not_refused, number-of,
 use Rattle.headers.specs.Block.{Header, names, headers_of}
 use Rattle.scgi.specs.Grammar.{scgi1}
 use Rattle.scgi.specs.Check.{stated_by, has, check_block}
-use Rattle.scgi.specs.Digits.{NetDigits, digits_from}
+use Rattle.scgi.specs.Digits.{digits_from}
+use Rattle.scgi.specs.declared.netstring.Digits.{Digits}
 use Rattle.scgi.proofs.LengthDigits.{length-digits}
 use Rattle.scgi.specs.Netstring.{length_of}
 use Rattle.scgi.specs.Read.{read_of}
@@ -50,7 +51,7 @@ digits-refuse [] i v = not_refused
 digits-refuse (b ∷ s) i v = by (eqb b 58) (digits-refuse s (i + 1) (v * 10 + (b - 48)))
   where
     by :
-        {rest : Outcome NetDigits} (t : Bool) → Refuses digit_numbers rest
+        {rest : Outcome Digits} (t : Bool) → Refuses digit_numbers rest
         → Refuses digit_numbers
         (cond t (need (ltb 0 i) 2 (gives (record { count = i; value = v; colon = true })))
         (need (is_digit b && not (ltb 0 i && eqb v 0)) 2 (need (leb (v * 10 + (b - 48)) 16384) 3 rest)))

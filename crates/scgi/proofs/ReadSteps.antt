@@ -6,7 +6,8 @@ use mathlib.Core.List.{List}
 use lib.ListN.{length, get_or, take, drop}
 use borrow.Author.Tests.{lt-ltb, le-ltb, eq-eqb, ne_eqb, le-leb, lt-leb}
 use Rattle.octets.specs.Outcome.{refused, gives}
-use Rattle.scgi.specs.Netstring.{NetLength, length_of}
+use Rattle.scgi.specs.Netstring.{length_of}
+use Rattle.scgi.specs.declared.netstring.Length.{Length}
 use Rattle.scgi.specs.Check.{check_block}
 use Rattle.scgi.specs.Read.{places_at, read_of}
 use Rattle.scgi.specs.Claims.{ReadsInSteps}
@@ -16,7 +17,7 @@ pub no_length : (s : List ℕ) (k : ℕ) → length_of s ≡ refused k → read_
 unfolding read_of
 no_length s k e = rw e
 
-module _ (s : List ℕ) (l : NetLength) (e : length_of s ≡ gives l) where
+module _ (s : List ℕ) (l : Length) (e : length_of s ≡ gives l) where
   pub no_comma : length s ≤ l.next + l.len → read_of s ≡ refused 1
   unfolding read_of
   no_comma h = rw (e, le-ltb (l.next + l.len) (length s) h)

@@ -15,8 +15,10 @@ use Rattle.framing.proofs.Spools.{spools-equal, spool-cut}
 use Rattle.framing.proofs.SpoolSteps.{spool-goes-on}
 use Rattle.framing.proofs.Keeps.{Keeps, was_cut, same, keeps_then, keeps-cond, keeps-end, kept, Steady, cut-one, steady-frames, still-leb, still-ltb}
 use Rattle.scgi.specs.Check.{check_block}
-use Rattle.scgi.specs.Digits.{NetDigits, digits_from, length_by}
-use Rattle.scgi.specs.Netstring.{NetLength, length_of}
+use Rattle.scgi.specs.Digits.{digits_from, length_by}
+use Rattle.scgi.specs.declared.netstring.Digits.{Digits}
+use Rattle.scgi.specs.Netstring.{length_of}
+use Rattle.scgi.specs.declared.netstring.Length.{Length}
 use Rattle.scgi.specs.Read.{Places, places_at, read_of, used_of}
 use Rattle.scgi.proofs.DigitRuns.{two_runs}
 use Rattle.scgi.proofs.LengthDigits.{length-digits}
@@ -26,7 +28,7 @@ use Rattle.scgi.specs.Claims.{go_on, Links, MoreBytesKeepAnswer, UsedWithin, Cut
 keeps-length : (s t : List ℕ) → Keeps (length_of s) (length_of (s ++ t))
 keeps-length s t = rw (length-digits s, length-digits (s ++ t), two_runs s t 0 0) (by (digits_from 0 0 s))
   where
-    by : (o : Outcome NetDigits) → Keeps (then o length_by) (then (then o (go_on t)) length_by)
+    by : (o : Outcome Digits) → Keeps (then o length_by) (then (then o (go_on t)) length_by)
     by (refused k) = same
     by (gives d) = by-colon d.colon refl
       where
@@ -39,7 +41,7 @@ keeps-length s t = rw (length-digits s, length-digits (s ++ t), two_runs s t 0 0
 
 -- the chain behind the length, where the comma's place is within s
 after-length :
-    (s t : List ℕ) (l : NetLength) → l.next + l.len < length s
+    (s t : List ℕ) (l : Length) → l.next + l.len < length s
     → Keeps
     (need (eqb (get_or s (l.next + l.len) 0) 44) 4
     (then (check_block (take l.len (drop l.next s))) (λ n. need (leb (l.next + l.len + 1 + n) (length s)) 1 (gives (places_at l n)))))
@@ -68,7 +70,7 @@ pub links : (s : List ℕ) (p : Places) → read_of s ≡ gives p → Links s p
 unfolding read_of
 links s p e =
     let a = then-gives (length_of s) _ p e in
-    let l : NetLength = a.it in
+    let l : Length = a.it in
     let b = need-gives (ltb (l.next + l.len) (length s)) 1 _ p a.next in
     let c = need-gives (eqb (get_or s (l.next + l.len) 0) 44) 4 _ p b.1 in
     let d = then-gives (check_block (take l.len (drop l.next s))) _ p c.1 in

@@ -14,7 +14,7 @@ use Rattle.octets.specs.Decimal.{decimal}
 use Rattle.headers.specs.Block.{Header, printed, parsed}
 use Rattle.scgi.specs.Grammar.{netstring, encoded, IsRequest}
 use Rattle.scgi.specs.Check.{check_block}
-use Rattle.scgi.specs.Netstring.{NetLength}
+use Rattle.scgi.specs.declared.netstring.Length.{Length}
 use Rattle.scgi.specs.Read.{Places, places_at, read_of, block_in, body_in}
 use Rattle.scgi.specs.Claims.{places_of, Accepted, AcceptsExactly, RequestOnce}
 use Rattle.scgi.proofs.Lengths.{length_at, read-decimal, written}
@@ -152,15 +152,15 @@ moved a e q =
 
 -- the links of an answer, at a length that stands in decimal
 linked :
-    (s : List ℕ) (p : Places) (l : NetLength) (n : ℕ) (r : List ℕ) → s ≡ decimal l.len ++ 58 ∷ r → l ≡ length_at l.len → l.len ≤ 16384
+    (s : List ℕ) (p : Places) (l : Length) (n : ℕ) (r : List ℕ) → s ≡ decimal l.len ++ 58 ∷ r → l ≡ length_at l.len → l.len ≤ 16384
     → get_or s (l.next + l.len) 0 ≡ 44 → check_block (take l.len (drop l.next s)) ≡ gives n → l.next + l.len + 1 + n ≤ length s
     → p ≡ places_at l n → Accepted s p
 linked s p l n r is at small comma checked fits places =
-    let next : l.next ≡ length (decimal l.len) + 1 = ap (λ (x : NetLength). x.next) at in
+    let next : l.next ≡ length (decimal l.len) + 1 = ap (λ (x : Length). x.next) at in
     let f : length (decimal l.len) + 1 + l.len + 1 + n ≤ length (decimal l.len ++ 58 ∷ r) = rw (← next, ← is) fits in
     let q : Requested (take l.len r) (take n (drop (l.len + 1) r)) = requested r l.len n small f (rw (← next, ← is) checked) in
     let a : Accepted (decimal l.len ++ 58 ∷ r) (places_by l.len n) = accepted r l.len n small f q.hs q.block q.request (rw (← next, ← is) comma) in
-    moved a is (places ∙ ap {B = Places} (λ (x : NetLength). places_at x n) at)
+    moved a is (places ∙ ap {B = Places} (λ (x : Length). places_at x n) at)
 
 pub to-accepted : (s : List ℕ) (p : Places) → read_of s ≡ gives p → Accepted s p
 to-accepted s p e =

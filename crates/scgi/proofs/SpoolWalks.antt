@@ -19,8 +19,7 @@ use Rattle.framing.proofs.SpoolSteps.{at_end, at_cut, at-refused, at-full, onwar
 use Rattle.scgi.specs.Read.{used_of}
 use Rattle.scgi.specs.Spool.{ending_of, requests_of, SpoolDone}
 use Rattle.scgi.specs.declared.spool.Ending.{Ending}
-use Rattle.scgi.specs.declared.spool.Ending.TheVariants.{Stopped}
-use Rattle.scgi.specs.declared.spool.Stop.TheVariants.{Whole, Full}
+use Rattle.scgi.specs.declared.spool.Ending.TheVariants.{Whole, Full}
 use Rattle.scgi.proofs.Reader.{spools-hold}
 
 frames : Frames used_of
@@ -56,8 +55,8 @@ module _ {s d : List ℕ} {i n : ℕ} {out : List ℕ} (r : Standing s d i n out
         list = r.stored ∙ ap (over d 0) (sym l);
       }
 
-  pub none_left : length s ≤ i → SpoolDone s d out (record { count = n; next = i; ending = Stopped Whole })
-  none_left h = ends (Stopped Whole) (rw (drop_of_length-le s h) (at_end used_of frames (length d - n)))
+  pub none_left : length s ≤ i → SpoolDone s d out (record { count = n; next = i; ending = Whole })
+  none_left h = ends Whole (rw (drop_of_length-le s h) (at_end used_of frames (length d - n)))
 
   module _ (more : i < length s) where
     some : 0 < length (drop i s)
@@ -81,10 +80,10 @@ module _ {s d : List ℕ} {i n : ℕ} {out : List ℕ} (r : Standing s d i n out
       pub used-some : 0 < u
       used-some = (frames.within (drop i s) u reads).0
 
-      pub no_room : length d ≤ n → SpoolDone s d out (record { count = n; next = i; ending = Stopped Full })
+      pub no_room : length d ≤ n → SpoolDone s d out (record { count = n; next = i; ending = Full })
       no_room h =
           let z : length d - n ≡ 0 = omega arith in
-          ends (Stopped Full) (rw z (at-full used_of frames (drop i s) some u reads))
+          ends Full (rw z (at-full used_of frames (drop i s) some u reads))
 
       pub stored_one : n < length d → Standing s d (i + u) (n + 1) (set out n u)
       unfolding total

@@ -8,13 +8,16 @@ use native.Mathlib.Omega.{arith}
 use lib.ListN.{length, length-append}
 use borrow.Author.Tests.{eq-eqb, ne_eqb, le-leb, lt-leb}
 use Rattle.octets.specs.Outcome.{refused, gives}
+use Rattle.octets.specs.Refusal.{number_of}
+use Rattle.octets.specs.declared.refusal.Refusal.{Refusal}
+use Rattle.octets.specs.declared.refusal.Refusal.TheVariants.{NoRoom}
+use Rattle.std.proofs.Common.{Ok, Err}
 use Rattle.octets.specs.Decimal.{decimal}
 use Rattle.octets.specs.Copy.{over, Wrote}
 use Rattle.octets.proofs.Copies.{and_then}
 use Rattle.scgi.specs.Grammar.{netstring}
 use Rattle.scgi.specs.Check.{check_block}
 use Rattle.scgi.specs.Write.{to_write, in_room, write_of, WrittenOut, Written}
-use Rattle.scgi.specs.declared.write.Writing.TheVariants.{Bytes, Refused}
 use Rattle.scgi.proofs.Requests.{netstring-length}
 
 -- A netstring in four writes.
@@ -32,12 +35,12 @@ four-writes d b d₁ d₂ d₃ d₄ r₁ r₂ r₃ r₄ room w₁ w₂ w₃ w₄
 -- What is to be written goes out, or there is no room for it.
 
 module _ (w d : List ℕ) where
-  pub no_room : length d < length w → WrittenOut (in_room w (length d)) d d (Refused 21)
+  pub no_room : length d < length w → WrittenOut (in_room w (length d)) d d (Err NoRoom)
   no_room h =
       let e = lt-leb (length w) (length d) h in
       record { answer = rw e; output = rw e }
 
-  pub has_room : (after : List ℕ) (n : ℕ) → length w ≤ length d → Wrote d 0 w after n → WrittenOut (in_room w (length d)) d after (Bytes n)
+  pub has_room : (after : List ℕ) (n : ℕ) → length w ≤ length d → Wrote d 0 w after n → WrittenOut (in_room w (length d)) d after (Ok n)
   unfolding over
   has_room after n h x =
       let e = le-leb (length w) (length d) h in
@@ -46,8 +49,8 @@ module _ (w d : List ℕ) where
 -- The writer's chain, and what it leaves in the output d.
 
 module _ (block body d : List ℕ) where
-  pub left_alone : (k : ℕ) → write_of block body (length d) ≡ refused k → Written block body d d (Refused k)
-  left_alone k e = record { answer = rw e; output = rw e }
+  pub left_alone : (r : Refusal) → write_of block body (length d) ≡ refused (number_of r) → Written block body d d (Err r)
+  left_alone r e = record { answer = rw e; output = rw e }
 
   pub too_large : 16384 < length block → write_of block body (length d) ≡ refused 3
   unfolding write_of to_write

@@ -1,17 +1,15 @@
 -- What is asked of a whole block, by the reader and by the writer.
 -- Assumes nothing.
-use Rattle.std.specs.Prelude.{ℕ, Bool, false, ◌&&◌, ◌||◌, List, [], ◌∷◌, leb, length}
+use Rattle.std.specs.Prelude.{Result, ℕ, Bool, false, ◌&&◌, ◌||◌, List, [], ◌∷◌, leb, length}
 use Rattle.octets.specs.Text.{bytes}
 use Rattle.octets.specs.Outcome.{Outcome, refused, gives, then, need, given}
+use Rattle.octets.specs.Refusal.{outcome}
+use Rattle.octets.specs.declared.refusal.Refusal.{Refusal}
 use Rattle.octets.specs.Compare.{same_bytes}
 use Rattle.octets.specs.Lists.{different}
 use Rattle.octets.specs.Decimal.{number_of}
 use Rattle.headers.specs.Block.{Header, names, parsed}
 use Rattle.scgi.specs.Grammar.{scgi1}
-use Rattle.scgi.specs.declared.check.Stated.{Stated}
-use Rattle.scgi.specs.declared.check.Stated.TheVariants.{Length, Refused as StatedRefused}
-use Rattle.scgi.specs.declared.check.Checked.{Checked}
-use Rattle.scgi.specs.declared.check.Checked.TheVariants.{Body, Refused}
 
 -- the body length that the first header states; 8: "first header is not CONTENT_LENGTH with one or more digits", and 02 §2: "at most 10
 -- digits: a longer one is 8 in SCGI"
@@ -41,10 +39,6 @@ check_block block =
 abbrev pub stated_in : List ℕ → Outcome ℕ
 stated_in block = then (parsed block) stated_by
 
-abbrev pub stated_outcome : Stated → Outcome ℕ
-stated_outcome (Length n) = gives n
-stated_outcome (StatedRefused n) = refused n
-
 abbrev pub has_scgi : List ℕ → Outcome Bool
 has_scgi block = then (parsed block) (λ hs. gives (has scgi1 hs))
 
@@ -53,6 +47,5 @@ abbrev pub rest_of : List ℕ → Outcome ℕ
 rest_of block = then (parsed block) (λ hs. then (stated_by hs) (λ n. need (leb n 1048576) 9 (need (has scgi1 hs) 10 (gives n))))
 
 -- what the code's answer says
-abbrev pub checked_outcome : Checked → Outcome ℕ
-checked_outcome (Body n) = gives n
-checked_outcome (Refused n) = refused n
+abbrev pub checked_outcome : Result ℕ Refusal → Outcome ℕ
+checked_outcome = outcome (λ n. n)

@@ -9,8 +9,10 @@ use Rattle.framing.specs.Claims.{Frames, SpoolsEqual, SpoolCut, SpoolGoesOn}
 use Rattle.headers.specs.Block.{Header, printed}
 use Rattle.scgi.specs.Grammar.{netstring, encoded, IsRequest}
 use Rattle.scgi.specs.Check.{check_block}
-use Rattle.scgi.specs.Netstring.{NetLength, length_of}
-use Rattle.scgi.specs.Digits.{NetDigits, digits_from, length_by}
+use Rattle.scgi.specs.Netstring.{length_of}
+use Rattle.scgi.specs.declared.netstring.Length.{Length}
+use Rattle.scgi.specs.Digits.{digits_from, length_by}
+use Rattle.scgi.specs.declared.netstring.Digits.{Digits}
 use Rattle.scgi.specs.Read.{Places, places_at, read_of, used_of, block_in, body_in}
 use Rattle.scgi.specs.Spool.{requests_of}
 use Rattle.scgi.specs.Window.{largest, through_window}
@@ -115,7 +117,7 @@ ReadThenWrite =
 
 -- digits that were read from len bytes after n digits: the colon, where it came, is one of the bytes, and else every byte is a digit; of
 -- several digits the first is not 0, so they are no more than their number and one
-pub record DigitsWithin (n len : ℕ) (d : NetDigits) : Type 0 where
+pub record DigitsWithin (n len : ℕ) (d : Digits) : Type 0 where
   pub few : d.count ≤ d.value + 1
   pub small : d.value ≤ 16384
   pub onward : n ≤ d.count
@@ -123,12 +125,12 @@ pub record DigitsWithin (n len : ℕ) (d : NetDigits) : Type 0 where
   pub all_digits : d.colon ≡ false → d.count ≡ n + len
 
 -- what digits give with the bytes t behind them: where their colon has not come, they go on
-abbrev pub go_on : List ℕ → NetDigits → Outcome NetDigits
+abbrev pub go_on : List ℕ → Digits → Outcome Digits
 go_on t d = cond d.colon (gives d) (digits_from d.count d.value t)
 
 -- the digits of a length that was read
-pub record LengthSaid (s : List ℕ) (l : NetLength) : Type 0 where
-  pub digits : NetDigits
+pub record LengthSaid (s : List ℕ) (l : Length) : Type 0 where
+  pub digits : Digits
   pub read : digits_from 0 0 s ≡ gives digits
   pub colon : digits.colon ≡ true
   pub is : l ≡ record { len = digits.value; next = digits.count + 1 }
@@ -139,23 +141,23 @@ pub record DigitsGoOn : Type 0 where
       (s t : List ℕ) (n v : ℕ)
       → digits_from n v (s ++ t) ≡ then (digits_from n v s) (go_on t)
   pub within :
-      (s : List ℕ) (n v : ℕ) (d : NetDigits) → n ≤ v + 1 → v ≤ 16384 → digits_from n v s ≡ gives d → DigitsWithin n (length s) d
+      (s : List ℕ) (n v : ℕ) (d : Digits) → n ≤ v + 1 → v ≤ 16384 → digits_from n v s ≡ gives d → DigitsWithin n (length s) d
   pub length_is : (s : List ℕ) → length_of s ≡ then (digits_from 0 0 s) length_by
-  pub said : (s : List ℕ) (l : NetLength) → length_of s ≡ gives l → LengthSaid s l
+  pub said : (s : List ℕ) (l : Length) → length_of s ≡ gives l → LengthSaid s l
 
 -- a block that passes states no body above the limit
 abbrev pub StatedWithin : Type 0
 StatedWithin = (b : List ℕ) (n : ℕ) → check_block b ≡ gives n → n ≤ 1048576
 
 -- the block's comma stands in s, where its length is l
-pub record CommaAt (s : List ℕ) (l : NetLength) : Type 0 where
+pub record CommaAt (s : List ℕ) (l : Length) : Type 0 where
   pub length_read : length_of s ≡ gives l
   pub there : l.next + l.len < length s
   pub comma : get_or s (l.next + l.len) 0 ≡ 44
 
 -- what the reader saw where it gives the places p
 pub record Links (s : List ℕ) (p : Places) : Type 0 where
-  pub l : NetLength
+  pub l : Length
   pub n : ℕ
   pub comma_at : CommaAt s l
   pub block_checked : check_block (take l.len (drop l.next s)) ≡ gives n
@@ -165,16 +167,16 @@ pub record Links (s : List ℕ) (p : Places) : Type 0 where
 -- the reader's chain, link by link
 pub record ReadsInSteps (s : List ℕ) : Type 0 where
   pub no_length : (k : ℕ) → length_of s ≡ refused k → read_of s ≡ refused k
-  pub no_comma : (l : NetLength) → length_of s ≡ gives l → length s ≤ l.next + l.len → read_of s ≡ refused 1
+  pub no_comma : (l : Length) → length_of s ≡ gives l → length s ≤ l.next + l.len → read_of s ≡ refused 1
   pub other_comma :
-      (l : NetLength) → length_of s ≡ gives l → l.next + l.len < length s → (get_or s (l.next + l.len) 0 ≡ 44 → ⊥) → read_of s ≡ refused 4
+      (l : Length) → length_of s ≡ gives l → l.next + l.len < length s → (get_or s (l.next + l.len) 0 ≡ 44 → ⊥) → read_of s ≡ refused 4
   pub block_refused :
-      (l : NetLength) → CommaAt s l → (k : ℕ) → check_block (take l.len (drop l.next s)) ≡ refused k → read_of s ≡ refused k
+      (l : Length) → CommaAt s l → (k : ℕ) → check_block (take l.len (drop l.next s)) ≡ refused k → read_of s ≡ refused k
   pub short_body :
-      (l : NetLength) → CommaAt s l → (n : ℕ) → check_block (take l.len (drop l.next s)) ≡ gives n
+      (l : Length) → CommaAt s l → (n : ℕ) → check_block (take l.len (drop l.next s)) ≡ gives n
       → length s < l.next + l.len + 1 + n → read_of s ≡ refused 1
   pub whole_request :
-      (l : NetLength) → CommaAt s l → (n : ℕ) → check_block (take l.len (drop l.next s)) ≡ gives n
+      (l : Length) → CommaAt s l → (n : ℕ) → check_block (take l.len (drop l.next s)) ≡ gives n
       → l.next + l.len + 1 + n ≤ length s → read_of s ≡ gives (places_at l n)
   pub links : (p : Places) → read_of s ≡ gives p → Links s p
 

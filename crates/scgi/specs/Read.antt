@@ -1,11 +1,13 @@
 -- The reader of SCGI requests.
 -- Assumes nothing.
-use Rattle.std.specs.Prelude.{ℕ, ◌+◌, List, eqb, leb, ltb, length, get_or, take, drop}
-use Rattle.octets.specs.Outcome.{Outcome, refused, gives, then, need}
-use Rattle.scgi.specs.Netstring.{NetLength, length_of}
+use Rattle.std.specs.Prelude.{Result, ℕ, ◌+◌, List, eqb, leb, ltb, length, get_or, take, drop}
+use Rattle.octets.specs.Outcome.{Outcome, gives, then, need}
+use Rattle.octets.specs.Refusal.{outcome}
+use Rattle.octets.specs.declared.refusal.Refusal.{Refusal}
+use Rattle.scgi.specs.Netstring.{length_of}
 use Rattle.scgi.specs.Check.{check_block}
-use Rattle.scgi.specs.declared.read.Reading.{Reading}
-use Rattle.scgi.specs.declared.read.Reading.TheVariants.{Request, Refused}
+use Rattle.scgi.specs.declared.netstring.Length.{Length}
+use Rattle.scgi.specs.declared.read.Request.{Request}
 
 -- "the places of block and body and the number of bytes used"
 pub record Places : Type 0 where
@@ -16,12 +18,20 @@ pub record Places : Type 0 where
   pub used : ℕ
 
 -- what the code's answer says
-abbrev pub reading_outcome : Reading → Outcome Places
-reading_outcome (Request a b c d e) = gives (record { block_start = a; block_length = b; body_start = c; body_length = d; used = e })
-reading_outcome (Refused n) = refused n
+abbrev pub reading_outcome : Result Request Refusal → Outcome Places
+reading_outcome =
+    outcome
+    (λ r.
+    record {
+      block_start = r.block.start;
+      block_length = r.block.len;
+      body_start = r.body.start;
+      body_length = r.body.len;
+      used = r.used;
+    })
 
 -- the block of the netstring l, its comma, and n bytes of body
-abbrev pub places_at : NetLength → ℕ → Places
+abbrev pub places_at : Length → ℕ → Places
 places_at l n =
     record {
       block_start = l.next;

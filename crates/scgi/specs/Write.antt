@@ -1,11 +1,11 @@
 -- The writer of SCGI requests.
 -- Assumes nothing.
-use Rattle.std.specs.Prelude.{ℕ, ◌≡◌, List, ◌++◌, eqb, leb, length, drop}
+use Rattle.std.specs.Prelude.{Result, ℕ, ◌≡◌, List, ◌++◌, eqb, leb, length, drop}
 use Rattle.octets.specs.Outcome.{Outcome, refused, gives, then, need}
+use Rattle.octets.specs.Refusal.{outcome}
+use Rattle.octets.specs.declared.refusal.Refusal.{Refusal}
 use Rattle.scgi.specs.Grammar.{netstring}
 use Rattle.scgi.specs.Check.{check_block}
-use Rattle.scgi.specs.declared.write.Writing.{Writing}
-use Rattle.scgi.specs.declared.write.Writing.TheVariants.{Bytes, Refused}
 
 -- the writer's order up to 23, "The writer takes a block and a body": gives the bytes to be written
 unfoldable pub to_write : List ℕ → List ℕ → Outcome (List ℕ)
@@ -23,9 +23,8 @@ unfoldable pub write_of : List ℕ → List ℕ → ℕ → Outcome (List ℕ)
 write_of block body room = then (to_write block body) (λ w. in_room w room)
 
 -- what the code's answer says
-abbrev pub writing_outcome : Writing → Outcome ℕ
-writing_outcome (Bytes n) = gives n
-writing_outcome (Refused n) = refused n
+abbrev pub writing_outcome : Result ℕ Refusal → Outcome ℕ
+writing_outcome = outcome (λ n. n)
 
 -- "Success writes the first n bytes, reports n, and leaves the rest"; a refusal "changes no byte of the output"
 abbrev pub output_after : Outcome (List ℕ) → List ℕ → List ℕ
@@ -33,9 +32,9 @@ output_after (refused n) d = d
 output_after (gives w) d = w ++ drop (length w) d
 
 -- of the bytes that are to be written, or the refusal: what the answer r says, and what the output is after it
-pub record WrittenOut (o : Outcome (List ℕ)) (before after : List ℕ) (r : Writing) : Type 0 where
+pub record WrittenOut (o : Outcome (List ℕ)) (before after : List ℕ) (r : Result ℕ Refusal) : Type 0 where
   pub answer : writing_outcome r ≡ then o (λ w. gives (length w))
   pub output : after ≡ output_after o before
 
-abbrev pub Written : (block body before after : List ℕ) → Writing → Type 0
+abbrev pub Written : (block body before after : List ℕ) → Result ℕ Refusal → Type 0
 Written block body before after r = WrittenOut (write_of block body (length before)) before after r

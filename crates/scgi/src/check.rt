@@ -1,145 +1,92 @@
 // What is asked of a whole block.
 ghost use Rattle.std.specs.Prelude.{◌≡◌, true};
-ghost use Rattle.octets.specs.Outcome.{gives, then, refusal_of};
+ghost use Rattle.octets.specs.Outcome.{gives, then};
 ghost use Rattle.octets.specs.Lists.{different};
-ghost use Rattle.headers.specs.Names.{NamesIn};
 ghost use Rattle.headers.specs.Block.{parsed, well_formed, count_of, names};
-ghost use Rattle.scgi.specs.Check.{stated_outcome, stated_in, has_scgi, checked_outcome, rest_of, check_block};
+ghost use Rattle.scgi.specs.Check.{stated_in, has_scgi, checked_outcome, rest_of, check_block};
 
-use headers::block::{Count, HeaderPlace, header_at};
-use headers::lookup::{Place, seek_by};
-use headers::names::{many_differ, store_names, stored_differ};
+use headers::block::header_at;
+use headers::names::{Names, store_names};
 use octets::compare::same;
 use octets::decimal;
-use octets::decimal::Number;
-
-#[derive(Clone, Copy)]
-pub enum Stated {
-    Length(u64),
-    Refused(u8),
-}
-
-impl Stated {
-    // The number of the refusal.
-    pub fn number(self) -> u8
-        ensures { result ≡ refusal_of (stated_outcome self) }
-    {
-        match self {
-            Stated::Length(_) => 0,
-            Stated::Refused(n) => n,
-        }
-    }
-}
+use octets::refusal::Refusal;
+use octets::span::Span;
 
 // The body length that the first header of a well formed block states. Whatever is amiss with it, no header too, is 8: "first header is not
 // CONTENT_LENGTH with one or more digits", and 02 §2: "at most 10 digits: a longer one is 8 in SCGI".
-fn stated_length(block: &[u8]) -> Stated
+fn stated_length(block: &[u8]) -> Result<u64, Refusal>
     requires { well_formed block.now ≡ true }
-    ensures { stated_outcome result ≡ stated_in block.now }
+    ensures { checked_outcome result ≡ stated_in block.now }
 {
-    if block.len() == 0 {
-        return Stated::Refused(8);
+    if block.is_empty() {
+        return Err(Refusal::NoContentLength);
     }
-    let h = header_at(block, 0);
-    let HeaderPlace::At {
-        name_end,
-        value_end,
-    } = h
-    else {
-        // Does not come: the block is well formed.
-        return Stated::Refused(8);
-    };
+    // The block is well formed, so that the header is there.
+    let header = header_at(block, 0).unwrap();
+    let name_end = header.name_end;
     if !same(&block[..name_end], b"CONTENT_LENGTH") {
-        return Stated::Refused(8);
+        return Err(Refusal::NoContentLength);
     }
     let start = name_end + 1;
-    let v = decimal::read(&block[start..value_end]);
-    let Number::Value(n) = v else {
-        return Stated::Refused(8);
-    };
-    Stated::Length(n)
+    decimal::read(&block[start..header.value_end]).ok_or(Refusal::NoContentLength)
 }
 
-// Whether a block of n headers, whose names' places were stored and differ, has the header SCGI with the value 1.
-fn has_scgi(block: &[u8], places: &[usize], n: usize) -> bool
-    requires { NamesIn block.now places.now n × (then (parsed block.now) (λ hs. gives (different (names hs))) ≡ gives true) }
-    ensures { has_scgi block.now ≡ gives result }
+// Whether a block, whose names differ, has the header SCGI with the value 1.
+fn has_scgi(stored: Names<'_>) -> bool
+    requires { then (parsed stored.block.now) (λ hs. gives (different (names hs))) ≡ gives true }
+    ensures { has_scgi stored.entry.block.now ≡ gives result }
 {
-    let p = seek_by(block, places, n, b"SCGI");
-    let Place::At { start, len } = p else {
+    let Some(value) = stored.seek(b"SCGI") else {
         return false;
     };
-    same(&block[start..start + len], b"1")
-}
-
-#[derive(Clone, Copy)]
-pub enum Checked {
-    // The body length that the block states.
-    Body(usize),
-    Refused(u8),
-}
-
-impl Checked {
-    // The number of the refusal.
-    pub fn number(self) -> u8
-        ensures { result ≡ refusal_of (checked_outcome self) }
-    {
-        match self {
-            Checked::Body(_) => 0,
-            Checked::Refused(n) => n,
-        }
-    }
+    same(value.of(stored.block), b"1")
 }
 
 // What is asked of such a block after its names.
-fn check_rest(block: &[u8], places: &[usize], n: usize) -> Checked
-    requires { NamesIn block.now places.now n × (then (parsed block.now) (λ hs. gives (different (names hs))) ≡ gives true) }
-    ensures { checked_outcome result ≡ rest_of block.now }
+fn check_rest(stored: Names<'_>) -> Result<usize, Refusal>
+    requires { then (parsed stored.block.now) (λ hs. gives (different (names hs))) ≡ gives true }
+    ensures { checked_outcome result ≡ rest_of stored.entry.block.now }
 {
-    let l = stated_length(block);
-    let Stated::Length(len) = l else {
-        return Checked::Refused(l.number());
-    };
+    let len = stated_length(stored.block)?;
     if 1048576 < len {
-        return Checked::Refused(9);
+        return Err(Refusal::BodyTooLong);
     }
-    if !has_scgi(block, places, n) {
-        return Checked::Refused(10);
+    if !has_scgi(stored) {
+        return Err(Refusal::NoScgi);
     }
-    Checked::Body(len as usize)
+    Ok(len as usize)
 }
 
 // Whether a block of n headers, of any number, is that of a request. It is walked again for its names, with room for as many as a request may
-// have.
-fn check_large(block: &[u8], n: usize) -> Checked
+// have. A const parameter for the room would leave tests of it: more names than fit mean another thing here, and are compared in another way.
+fn check_large(block: &[u8], n: usize) -> Result<usize, Refusal>
     requires { count_of block.now ≡ gives n }
     ensures { checked_outcome result ≡ check_block block.now }
 {
     if 128 < n {
-        return Checked::Refused(6);
+        return Err(Refusal::TooManyHeaders);
     }
-    let mut places = [0usize; 256];
-    store_names(block, &mut places);
-    if !many_differ(block, &places, n) {
-        return Checked::Refused(7);
+    let mut places = [Span { start: 0, len: 0 }; 128];
+    store_names(block, &mut places)?;
+    let stored = Names::new(block, &places[..n]);
+    if !stored.differ_by_length() {
+        return Err(Refusal::EqualNames);
     }
-    check_rest(block, &places, n)
+    check_rest(stored)
 }
 
 // Whether a block is that of a request. It is walked for the count of its headers and, of the at most 32 that most have, for their names.
-pub fn check_block(block: &[u8]) -> Checked
+pub fn check_block(block: &[u8]) -> Result<usize, Refusal>
     ensures { checked_outcome result ≡ check_block block.now }
 {
-    let mut few = [0usize; 64];
-    let c = store_names(block, &mut few);
-    let Count::Headers(n) = c else {
-        return Checked::Refused(c.number());
-    };
+    let mut few = [Span { start: 0, len: 0 }; 32];
+    let n = store_names(block, &mut few)?;
     if 32 < n {
         return check_large(block, n);
     }
-    if !stored_differ(block, &few, n) {
-        return Checked::Refused(7);
+    let stored = Names::new(block, &few[..n]);
+    if !stored.differ() {
+        return Err(Refusal::EqualNames);
     }
-    check_rest(block, &few, n)
+    check_rest(stored)
 }

@@ -1,118 +1,78 @@
 // The length digits of a netstring.
 ghost use Rattle.std.specs.Prelude.{◌≡◌, ◌+◌, ◌≤◌};
-ghost use Rattle.octets.specs.Outcome.{refusal_of};
 ghost use Rattle.scgi.specs.Digits.{digits_outcome, digits_from};
 ghost use Rattle.scgi.specs.Netstring.{length_outcome, length_of};
 
-#[derive(Clone, Copy)]
-pub enum Digits {
-    // How many digits there are, the number that they say, and whether the colon came behind them.
-    Read {
-        count: usize,
-        value: usize,
-        colon: bool,
-    },
-    Refused(u8),
-}
+use octets::refusal::Refusal;
 
-impl Digits {
-    // The number of the refusal.
-    pub fn number(self) -> u8
-        ensures { result ≡ refusal_of (digits_outcome self) }
-    {
-        match self {
-            Digits::Read {
-                count: _,
-                value: _,
-                colon: _,
-            } => 0,
-            Digits::Refused(n) => n,
-        }
-    }
+// Length digits that were read.
+#[derive(Clone, Copy, Debug, PartialEq, Eq)]
+pub struct Digits {
+    pub count: usize,
+    // The number that they say.
+    pub value: usize,
+    // Whether the colon came behind them.
+    pub colon: bool,
 }
 
 // What the bytes say after so many digits, which say the value. The first fault from the left decides.
-pub fn read_digits(s: &[u8], count: usize, value: usize) -> Digits
+pub fn read_digits(s: &[u8], count: usize, value: usize) -> Result<Digits, Refusal>
     requires { (count ≤ value + 1) × (value ≤ 16384) }
     ensures { digits_outcome result ≡ digits_from count value s.now }
 {
     let mut n = count;
     let mut v = value;
-    let mut i: usize = 0;
-    while i < s.len() {
-        let b = s[i];
+    for &b in s {
         if b == b':' {
             if 0 < n {
-                return Digits::Read {
+                return Ok(Digits {
                     count: n,
                     value: v,
                     colon: true,
-                };
+                });
             }
-            return Digits::Refused(2);
+            return Err(Refusal::LengthMalformed);
         }
-        if b < b'0' {
-            return Digits::Refused(2);
+        if !b.is_ascii_digit() {
+            return Err(Refusal::LengthMalformed);
         }
-        if b'9' < b {
-            return Digits::Refused(2);
+        if 0 < n && v == 0 {
+            return Err(Refusal::LengthMalformed);
         }
-        if 0 < n {
-            if v == 0 {
-                return Digits::Refused(2);
-            }
-        }
-        v = v * 10 + (b - b'0') as usize;
+        v = v * 10 + usize::from(b - b'0');
         if 16384 < v {
-            return Digits::Refused(3);
+            return Err(Refusal::BlockTooLong);
         }
         n += 1;
-        i += 1;
     }
-    Digits::Read {
+    Ok(Digits {
         count: n,
         value: v,
         colon: false,
-    }
+    })
 }
 
-#[derive(Clone, Copy)]
-pub enum Length {
-    // The length, and the place after the colon.
-    Value { len: usize, next: usize },
-    Refused(u8),
-}
-
-impl Length {
-    // The number of the refusal.
-    pub fn number(self) -> u8
-        ensures { result ≡ refusal_of (length_outcome self) }
-    {
-        match self {
-            Length::Value { len: _, next: _ } => 0,
-            Length::Refused(n) => n,
-        }
-    }
+// A netstring's length, and the place after its colon.
+#[derive(Clone, Copy, Debug, PartialEq, Eq)]
+pub struct Length {
+    pub len: usize,
+    pub next: usize,
 }
 
 // The length at the start of s.
-pub fn read_length(s: &[u8]) -> Length
+pub fn read_length(s: &[u8]) -> Result<Length, Refusal>
     ensures { length_outcome result ≡ length_of s.now }
 {
-    let d = read_digits(s, 0, 0);
-    let Digits::Read {
+    let Digits {
         count,
         value,
         colon,
-    } = d
-    else {
-        return Length::Refused(d.number());
-    };
+    } = read_digits(s, 0, 0)?;
     if !colon {
-        return Length::Refused(1);
+        return Err(Refusal::Cut);
     }
-    Length::Value {
+    Ok(Length {
         len: value,
         next: count + 1,
-    }
+    })
 }

@@ -1,12 +1,13 @@
 // Reading a spool of any length through a window.
 ghost use Rattle.std.specs.Prelude.{◌≡◌};
 ghost use Rattle.scgi.specs.Spool.{ending_of};
-ghost use Rattle.scgi.specs.Window.{next_of, TurnDone};
+ghost use Rattle.scgi.specs.Window.{next_as, next_of, TurnDone};
 
-use crate::spool::{Ending, Stop, spool};
+use crate::spool::{Ending, spool};
+use octets::refusal::Refusal;
 
 // What comes after a turn.
-#[derive(Clone, Copy)]
+#[derive(Clone, Copy, Debug, PartialEq, Eq)]
 pub enum Next {
     // The bytes behind the taken ones, and more input behind them.
     More,
@@ -14,10 +15,10 @@ pub enum Next {
     Again,
     Whole,
     Cut,
-    Refused(u8),
+    Refused(Refusal),
 }
 
-#[derive(Clone, Copy)]
+#[derive(Clone, Copy, Debug, PartialEq, Eq)]
 pub struct Turn {
     // How many lengths are stored.
     pub count: usize,
@@ -30,35 +31,23 @@ pub struct Turn {
 pub fn advance(held: &[u8], ended: bool, lengths: &mut [u64]) -> Turn
     ensures { TurnDone held.now ended lengths.old lengths.new result }
 {
-    let s = spool(held, lengths);
-    let e = s.ending;
+    let spooled = spool(held, lengths);
     Turn {
-        count: s.count,
-        taken: s.next,
-        next: after(e, ended),
+        count: spooled.count,
+        taken: spooled.next,
+        next: after(spooled.ending, ended),
     }
 }
 
 // What comes after an ending.
-fn after(e: Ending, ended: bool) -> Next
-    ensures { result ≡ next_of ended (ending_of e) }
+fn after(ending: Ending, ended: bool) -> Next
+    ensures { next_as result ≡ next_of ended (ending_of ending) }
 {
-    let Ending::Stopped(s) = e else {
-        return Next::Refused(e.number());
-    };
-    match s {
-        Stop::Full => Next::Again,
-        Stop::Whole => {
-            if ended {
-                return Next::Whole;
-            }
-            Next::More
-        }
-        Stop::Cut => {
-            if ended {
-                return Next::Cut;
-            }
-            Next::More
-        }
+    match ending {
+        Ending::Full => Next::Again,
+        Ending::Whole if ended => Next::Whole,
+        Ending::Cut if ended => Next::Cut,
+        Ending::Whole | Ending::Cut => Next::More,
+        Ending::Refused(refusal) => Next::Refused(refusal),
     }
 }

@@ -1,54 +1,57 @@
 use mathlib.Core.Path.{◌≡◌, sym, ap, ◌∙◌}
 use native.Mathlib.Omega.{arith}
+use Rattle.std.proofs.lemmas.Bool.Decides.{nat_tests}
 use lib.ListN.{length-take}
-use Rattle.octets.specs.Decimal.{number_read}
-use Rattle.octets.specs.Outcome.{given}
-use Rattle.headers.proofs.Claims.{header-parses}
+use Rattle.octets.specs.Outcome.{gives}
 use Rattle.headers.specs.Block.{HeaderFound, header_outcome}
-use Rattle.headers.specs.declared.block.HeaderPlace.TheVariants.{At}
-use Rattle.scgi.proofs.CheckSteps.{states-none, states-first, never-unheaded, first_states}
+use Rattle.scgi.proofs.CheckSteps.{states-none, states-first, first-found, first-is, first_states, given-or}
 use Rattle.scgi.specs.Check.{stated_in}
 use Rattle.scgi.proofs.check.stated_length.Goals as goal
-use Rattle.scgi.proofs.check.stated_length.Goals.{In-At}
+use Rattle.scgi.proofs.check.stated_length.Goals.{After-unwrap-header}
 
 -- the first header
-found :
-    (c : In-At)
-    → HeaderFound c.args.block.now 0 (header_outcome (At c.in-At.name_end c.in-At.value_end))
+found : (c : After-unwrap-header) → HeaderFound c.args.block.now 0 (gives c.unwrap-header.result)
 found c =
-    rw (sym c.header_at-h.ensures ∙ ap header_outcome c.in-At.is) at (header-parses c.args.block.now 0 (omega (arith, c.if-block-eq0.false)))
+    rw (ap header_outcome c.unwrap-header.ensures) at
+    (first-found c.args.block.now c.requires c.header_at.result c.header_at.ensures (grind (arith, nat_tests)))
 
 -- what it states
-says : (c : In-At) → (let b = c.args.block.now in stated_in b ≡ first_states b c.in-At.name_end c.in-At.value_end)
+says :
+    (c : After-unwrap-header)
+    → (let b = c.args.block.now in
+    let h = c.unwrap-header.result in
+    stated_in b ≡ first_states b h.name_end h.value_end)
 says c = states-first _ c.requires _ _ (found c)
 
-pub returns-then-block-eq0 : goal.returns-then-block-eq0
-returns-then-block-eq0 c = sym (states-none c.args.block.now c.requires c.if-block-eq0.true)
+pub returns-then-is_empty : goal.returns-then-is_empty
+returns-then-is_empty c = sym (states-none c.args.block.now c.requires (grind (arith, nat_tests)))
 
-pub returns-in_default : goal.returns-in_default
-returns-in_default c =
-    never-unheaded c.args.block.now c.requires _ (rw (sym c.header_at-h.ensures ∙ ap header_outcome c.in_default.is) at (header-parses c.args.block.now 0 (omega (arith, c.if-block-eq0.false))))
+pub unwrap-header-requires : goal.unwrap-header-requires
+unwrap-header-requires c =
+    first-is c.args.block.now c.requires _
+    (first-found c.args.block.now c.requires c.header_at.result c.header_at.ensures (grind (arith, nat_tests)))
 
 pub slice_bounds-same-end : goal.slice_bounds-same-end
-slice_bounds-same-end c = simp length-take (omega (arith, (found c).order))
+slice_bounds-same-end c = simp length-take (omega (arith, (found (goal.at.slice_bounds-same-end c).After-unwrap-header).order))
 
 pub returns-then-not-same : goal.returns-then-not-same
-returns-then-not-same c = sym (says (goal.at.returns-then-not-same c).In-At ∙ rw (sym c.same.ensures ∙ c.if-not-same.true))
+returns-then-not-same c =
+    sym (says (goal.at.returns-then-not-same c).After-unwrap-header ∙ rw (sym c.same.ensures ∙ c.if-not-same.true))
 
 pub overflow_add-start : goal.overflow_add-start
-overflow_add-start c = omega (arith, (found (goal.at.overflow_add-start c).In-At).order)
+overflow_add-start c = omega (arith, (found (goal.at.overflow_add-start c).After-unwrap-header).order)
 
 pub slice_bounds-read-count : goal.slice_bounds-read-count
-slice_bounds-read-count c = omega (arith, (found (goal.at.slice_bounds-read-count c).In-At).order)
+slice_bounds-read-count c = omega (arith, (found (goal.at.slice_bounds-read-count c).After-unwrap-header).order)
 
 pub slice_bounds-read-start : goal.slice_bounds-read-start
-slice_bounds-read-start c = omega (arith, (found (goal.at.slice_bounds-read-start c).In-At).order)
+slice_bounds-read-start c = omega (arith, (found (goal.at.slice_bounds-read-start c).After-unwrap-header).order)
 
 pub slice_bounds-read-end : goal.slice_bounds-read-end
-slice_bounds-read-end c = omega (arith, (found (goal.at.slice_bounds-read-end c).In-At).order)
-
-pub returns-in_default-v : goal.returns-in_default-v
-returns-in_default-v c = sym (says (goal.at.returns-in_default-v c).In-At ∙ rw (sym c.same.ensures ∙ c.if-not-same.false) (ap (λ o. given o 8) (sym c.read-v.ensures ∙ ap number_read c.in_default-v.is)))
+slice_bounds-read-end c = omega (arith, (found (goal.at.slice_bounds-read-end c).After-unwrap-header).order)
 
 pub returns : goal.returns
-returns c = sym (says (goal.at.returns c).In-At ∙ rw (sym c.same.ensures ∙ c.if-not-same.false) (ap (λ o. given o 8) (sym c.read-v.ensures ∙ ap number_read c.in-Value.is)))
+returns c =
+    rw c.ok_or.ensures.value
+    (given-or c.read.result _
+    ∙ rw c.read.ensures (sym (says (goal.at.returns c).After-unwrap-header ∙ rw (sym c.same.ensures ∙ c.if-not-same.false))))

@@ -1,64 +1,60 @@
 use mathlib.Core.Path.{◌≡◌, refl, sym, ap, ◌∙◌}
-use Prim.Native.Nat.{◌+◌, ◌≤◌}
+use Prim.Native.Nat.{ℕ, ◌+◌, ◌-◌, ◌≤◌}
+use mathlib.Core.List.{List}
 use native.Mathlib.Omega.{arith}
-use lib.ListN.{length, drop, length-set}
+use lib.ListN.{length, take, drop, length-set}
 use borrow.Author.Rules.{rules}
 use Rattle.octets.proofs.Lists.{from}
-use Rattle.octets.specs.Outcome.{refused, gives, refusal_of}
+use Rattle.octets.specs.Outcome.{Outcome, gives, then}
 use Rattle.scgi.proofs.SpoolWalks.{start, none_left, refusal, within, used-some, no_room, stored_one}
-use Rattle.scgi.specs.Read.{used_of}
-use Rattle.scgi.specs.Spool.{used_outcome}
+use Rattle.scgi.specs.Read.{Places, read_of, used_of}
 use Rattle.scgi.proofs.spool.spool.Goals as goal
-use Rattle.scgi.proofs.spool.spool.Goals.{After-read_used-u, In-Bytes}
+use Rattle.scgi.proofs.spool.spool.Goals.{In-Ok}
 
--- what the reader says of the bytes from i on
-says : (c : After-read_used-u) → (used_of (drop c.loop-i.i c.args.bytes.now) ≡ used_outcome c.read_used-u.result)
-says c =
-    sym (c.read_used-u.ensures ∙ ap used_of (from c.args.bytes.now c.loop-i.i))
+-- what the reader's answer over the bytes from i on says of their first request
+used : (s : List ℕ) (i : ℕ) (o : Outcome Places) → o ≡ read_of (take (length s - i) (drop i s)) → used_of (drop i s) ≡ then o (λ p. gives p.used)
+used s i o e = sym (ap (λ (x : Outcome Places). then x (λ p. gives p.used)) e ∙ ap used_of (from s i))
 
--- the used count, where the pattern matched
+-- the used count, where there is a request
 reads :
-    (c : In-Bytes)
-    → (used_of (drop c.loop-i.i c.args.bytes.now) ≡ gives c.in-Bytes.used)
-reads c = sym (c.read_used-u.ensures ∙ ap used_of (from c.args.bytes.now c.loop-i.i)) ∙ ap used_outcome c.in-Bytes.is
+    (c : In-Ok)
+    → (used_of (drop c.loop-next.next c.args.bytes.now) ≡ gives c.in-Ok.request.used)
+reads c =
+    let e = c.in-Ok.ensures in
+    used c.args.bytes.now c.loop-next.next _ e
 
 ends :
-    (c : In-Bytes)
-    → (c.loop-i.i + c.in-Bytes.used ≤ length c.args.bytes.now)
-ends c =
-    within c.loop-i.invariant.2 c.loop-i-test.true _ (reads c)
+    (c : In-Ok)
+    → (c.loop-next.next + c.in-Ok.request.used ≤ length c.args.bytes.now)
+ends c = within c.loop-next.invariant.2 c.loop-next-test.true _ (reads c)
 
-some : (c : In-Bytes) → 1 ≤ c.in-Bytes.used
-some c =
-    used-some c.loop-i.invariant.2 c.loop-i-test.true _ (reads c)
+pub loop-next-init : goal.loop-next-init
+loop-next-init c = (search rules, refl, start _ _)
 
-pub loop-i-init : goal.loop-i-init
-loop-i-init c = (search rules, refl, start _ _)
+pub returns-in-Err : goal.returns-in-Err
+returns-in-Err c =
+    let e = c.in-Err.ensures in
+    refusal c.loop-next.invariant.2 c.loop-next-test.true _ _ (used c.args.bytes.now c.loop-next.next _ e) c.from.ensures
 
-pub returns-in_default : goal.returns-in_default
-returns-in_default c =
-    let k = c.number.ensures ∙ ap (λ u. refusal_of (used_outcome u)) c.in_default.is in
-    refusal c.loop-i.invariant.2 c.loop-i-test.true _ _ (says (goal.at.returns-in_default c).After-read_used-u ∙ ap used_outcome c.in_default.is ∙ ap refused (sym k)) c.refusal_ending.ensures
+pub returns-then-lengths-count : goal.returns-then-lengths-count
+returns-then-lengths-count c =
+    no_room c.loop-next.invariant.2 c.loop-next-test.true _ (reads (goal.at.returns-then-lengths-count c).In-Ok) (omega arith)
 
-pub returns-then-lengths-n : goal.returns-then-lengths-n
-returns-then-lengths-n c =
-    no_room c.loop-i.invariant.2 c.loop-i-test.true _ (reads (goal.at.returns-then-lengths-n c).In-Bytes) (omega arith)
+pub overflow_add-next : goal.overflow_add-next
+overflow_add-next c = omega (arith, ends (goal.at.overflow_add-next c).In-Ok)
 
-pub overflow_add-n : goal.overflow_add-n
-overflow_add-n c = omega (arith, ends (goal.at.overflow_add-n c).In-Bytes)
+pub loop-next-smaller : goal.loop-next-smaller
+loop-next-smaller c =
+    let i = (goal.at.loop-next-smaller c).In-Ok in
+    omega (arith, ends i, used-some c.loop-next.invariant.2 c.loop-next-test.true _ (reads i))
 
-pub overflow_add-i : goal.overflow_add-i
-overflow_add-i c = omega (arith, ends (goal.at.overflow_add-i c).In-Bytes)
-
-pub loop-i-smaller : goal.loop-i-smaller
-loop-i-smaller c = omega (arith, ends (goal.at.loop-i-smaller c).In-Bytes, some (goal.at.loop-i-smaller c).In-Bytes)
-
-pub loop-i-preserved : goal.loop-i-preserved
-loop-i-preserved c = (
-  omega (arith, ends (goal.at.loop-i-preserved c).In-Bytes),
-  simp length-set c.loop-i.invariant.1,
-  stored_one c.loop-i.invariant.2 c.loop-i-test.true _ (reads (goal.at.loop-i-preserved c).In-Bytes) (omega arith),
-)
+pub loop-next-preserved : goal.loop-next-preserved
+loop-next-preserved c =
+    let i = (goal.at.loop-next-preserved c).In-Ok in (
+      omega (arith, ends i),
+      simp length-set c.loop-next.invariant.1,
+      stored_one c.loop-next.invariant.2 c.loop-next-test.true _ (reads i) (omega arith),
+    )
 
 pub returns : goal.returns
-returns c = none_left c.loop-i.invariant.2 c.loop-i-test.false
+returns c = none_left c.loop-next.invariant.2 c.loop-next-test.false
