@@ -20,7 +20,6 @@ use Rattle.response.specs.Head.{Value, Named, Head, head_of}
 use Rattle.response.specs.Status.{status_of, stated_in}
 use Rattle.response.specs.Location.{is_local, accepted, is_elsewhere, filled, location_right}
 use Rattle.response.specs.Table.{
-  Answer,
   Goes,
   nowhere,
   local,
@@ -49,6 +48,7 @@ use Rattle.response.specs.Table.{
 }
 use Rattle.response.specs.Response.{named, each_once, first_value, is_there, judged_head, response_of}
 use Rattle.response.specs.Claims.{how_many, rows_that_fit, row_of, status_fits, location_in, Within}
+use Rattle.response.specs.declared.table.Answer.{Answer}
 use Rattle.response.specs.declared.table.Action.{Action}
 use Rattle.response.specs.declared.table.Action.TheVariants.{Serve, Redirect, RedirectDocument, Document}
 use Rattle.response.proofs.Statuses.{status-within}
@@ -60,14 +60,14 @@ use Rattle.response.proofs.Seens.{named_in}
 pub record InRow (x : Script) (a : Answer) : Type 0 where
   pub fits : row_of a.action x ≡ true
   pub status_is : a.status ≡ status_for a.action x
-  pub location_start : a.location_start ≡ x.location_start
-  pub location_length : a.location_length ≡ x.location_length
-  pub body_start : a.body_start ≡ x.body_start
-  pub body_length : a.body_length ≡ x.body_length
+  pub location_start : a.location.start ≡ x.location_start
+  pub location_length : a.location.len ≡ x.location_length
+  pub body_start : a.body.start ≡ x.body_start
+  pub body_length : a.body.len ≡ x.body_length
 
 row-of : (x : Script) (a : Answer) (act : Action) → row_of act x ≡ true → answer_for x act ≡ gives a → InRow x a
 row-of x a act f e =
-    let z : a ≡ record { action = act; status = status_for act x; location_start = x.location_start; location_length = x.location_length; body_start = x.body_start; body_length = x.body_length } = cc in
+    let z : a ≡ record { action = act; status = status_for act x; location = record { start = x.location_start; len = x.location_length }; body = record { start = x.body_start; len = x.body_length } } = cc in
     rw z (record { fits = f; status_is = refl; location_start = refl; location_length = refl; body_start = refl; body_length = refl })
 
 pub in_row : (x : Script) (a : Answer) → table_of x ≡ gives a → InRow x a
@@ -145,14 +145,14 @@ module _ (s : List ℕ) (a : Answer) (r : Answered s a) where
 
   pub value_is : (v : Value) → location ≡ Some v → location_in s a ≡ v.bytes
   value_is v e =
-      let n : a.location_length ≡ length v.bytes = r.row.location_length ∙ ap length_or0 e in
-      let i : a.location_start ≡ v.start = r.row.location_start ∙ ap start_or0 e in
+      let n : a.location.len ≡ length v.bytes = r.row.location_length ∙ ap length_or0 e in
+      let i : a.location.start ≡ v.start = r.row.location_start ∙ ap start_or0 e in
       rw (n, i) (sym (stands v e).are)
 
   pub places : Within s a
   places = record { location = by location refl; body = omega (arith, r.row.body_start, r.row.body_length, (head_in s r.head r.is).ends) }
     where
-      by : (o : Option Value) → location ≡ o → a.location_start + a.location_length ≤ length s
+      by : (o : Option Value) → location ≡ o → a.location.start + a.location.len ≤ length s
       by None e = omega (arith, r.row.location_start ∙ ap start_or0 e, r.row.location_length ∙ ap length_or0 e)
       by (Some v) e = omega (arith, r.row.location_start ∙ ap start_or0 e, r.row.location_length ∙ ap length_or0 e, (stands v e).within)
 

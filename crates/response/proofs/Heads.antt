@@ -30,8 +30,9 @@ use Rattle.response.specs.Head.{
   ends_at,
   head_with,
 }
-use Rattle.response.specs.Seen.{see_field, seen_with, seen_from, Kept, seen_on, seen_head}
+use Rattle.response.specs.Seen.{see_field, seen_with, seen_from, seen_on, seen_head}
 use Rattle.response.specs.declared.fields.Seen.{Seen}
+use Rattle.response.specs.declared.head.HeadPlace.{HeadPlace}
 use Rattle.response.proofs.LineEnds.{part_length, bare-is, bare-empty, bare-some}
 
 -- A line before others.
@@ -130,7 +131,7 @@ pub record Standing (t : List ℕ) (n : ℕ) (seen : Seen) (at : ℕ) : Type 0 w
   pub answer : seen_head (head_with 64 (lines_at 0 t)) ≡ seen_on n seen (head_with (64 - n) (lines_at at (drop at t)))
 
 module _ {t : List ℕ} {n : ℕ} {seen : Seen} {at : ℕ} (r : Standing t n seen at) where
-  abbrev whole : Option Kept
+  abbrev whole : Option HeadPlace
   whole = seen_head (head_with 64 (lines_at 0 t))
 
   pub at_end : length t ≤ at → whole ≡ None
@@ -141,7 +142,7 @@ module _ {t : List ℕ} {n : ℕ} {seen : Seen} {at : ℕ} (r : Standing t n see
     unended h = r.answer ∙ ap (λ (o : Option Lines). seen_on n seen (head_with (64 - n) o)) (not-ended t at end r.within e h)
 
     module _ (h : end < length t) (l : ℕ) (q : l ≡ at + bare_length (take (end - at) (drop at t))) where
-      pub ends : l ≡ at → whole ≡ Some (record { ends = end + 1; fields = n; seen = seen })
+      pub ends : l ≡ at → whole ≡ Some (record { end = end + 1; fields = n; seen = seen })
       unfolding seen_from
       ends z =
           let b : bare_length (take (end - at) (drop at t)) ≡ 0 = omega arith in

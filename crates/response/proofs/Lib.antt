@@ -2,7 +2,6 @@ pub mod LineEnds
 pub mod FieldPlaces
 pub mod Heads
 pub mod Lies
-pub mod Marks
 pub mod Seens
 pub mod Statuses
 pub mod Locations

@@ -1,18 +1,19 @@
 -- What the marks tell of the fields that were seen, one after the other.
 -- Assumes nothing.
-use Prim.Native.Nat.{ℕ, zero, suc, ◌≤◌}
+use Prim.Native.Nat.{ℕ, zero, suc, ◌+◌, ◌≤◌}
 use mathlib.Core.Path.{◌≡◌, refl, sym, ap, ◌∙◌}
 use mathlib.Core.Bool.{Bool, true, false, cond, not, ◌&&◌}
 use mathlib.Core.List.{List, [], ◌∷◌}
 use Rattle.std.proofs.Common.{Some}
 use native.Mathlib.Omega.{arith}
+use lib.Dec.{eqb}
 use lib.ListN.{length, take, drop, length-drop}
 use borrow.Author.Tests.{ne_eqb, lt-leb}
 use Rattle.octets.specs.Text.{bytes}
 use Rattle.octets.specs.Compare.{same_letters}
 use Rattle.octets.specs.Lists.{All, no_more, ◌&◌, is_nil}
 use Rattle.response.specs.Head.{Named}
-use Rattle.response.specs.Seen.{again, noted_of, see_field, seen_from, none_seen, value_at, MarkIn, SeenIn, not_twice, mark_filled, is_once}
+use Rattle.response.specs.Seen.{again, noted_of, place_of, see_field, seen_from, none_seen, value_at, MarkIn, SeenIn, not_twice, mark_filled, is_once}
 use Rattle.response.specs.Location.{filled}
 use Rattle.response.specs.Response.{named, at_most_once, each_once, first_value, is_there}
 use Rattle.response.specs.declared.fields.Mark.{Mark}
@@ -23,18 +24,18 @@ use Rattle.response.proofs.Lies.{ValueIn}
 -- the fields of one name after what the mark tells
 unfoldable pub mark_from : Mark → List Named → Mark
 mark_from m [] = m
-mark_from m (f ∷ fs) = mark_from (again m f.value.start (length f.value.bytes)) fs
+mark_from m (f ∷ fs) = mark_from (again m (place_of f.value)) fs
 
 -- a mark goes from field to field of its name
 one_name :
     (w : List ℕ) (m : Mark) (f : Named) (fs : List Named)
-    → mark_from (noted_of w m f.name f.value.start (length f.value.bytes)) (named w fs) ≡ mark_from m (named w (f ∷ fs))
+    → mark_from (noted_of w m f.name (place_of f.value)) (named w fs) ≡ mark_from m (named w (f ∷ fs))
 unfolding mark_from named
 one_name w m f fs = by (same_letters f.name w)
   where
     by :
         (t : Bool)
-        → mark_from (cond t (again m f.value.start (length f.value.bytes)) m) (named w fs) ≡ mark_from m (cond t (f ∷ named w fs) (named w fs))
+        → mark_from (cond t (again m (place_of f.value)) m) (named w fs) ≡ mark_from m (cond t (f ∷ named w fs) (named w fs))
     by true = refl
     by false = refl
 
@@ -119,17 +120,19 @@ once-marks fs = rw (once-mark (named (bytes "content-type") fs), once-mark (name
 -- What the code asks of one mark.
 
 pub filled-mark : (s : List ℕ) (m : Mark) → MarkIn s m → filled (value_at s m) ≡ mark_filled m
-filled-mark s Absent p = refl
-filled-mark s (Once a zero) p = refl
-filled-mark s (Once a (suc l)) p =
-    ap not (front (drop a s) l (omega (arith, length-drop a s))) ∙ rw (ne_eqb (suc l) 0 (λ e. omega arith))
+filled-mark s Absent h = refl
+filled-mark s (Once p) h = by p.len h
   where
     front : (x : List ℕ) (k : ℕ) → suc k ≤ length x → is_nil (take (suc k) x) ≡ false
     front [] k h = absurd (omega arith)
     front (b ∷ x) k h = refl
-filled-mark s Twice p = refl
+
+    by : (l : ℕ) → p.start + l ≤ length s → not (is_nil (take l (drop p.start s))) ≡ not (eqb l 0)
+    by zero h = refl
+    by (suc l) h = ap not (front (drop p.start s) l (omega (arith, length-drop p.start s))) ∙ rw (ne_eqb (suc l) 0 (λ e. omega arith))
+filled-mark s Twice h = refl
 
 pub there-mark : (s : List ℕ) (m : Mark) → is_there (value_at s m) ≡ is_once m
 there-mark s Absent = refl
-there-mark s (Once a l) = refl
+there-mark s (Once p) = refl
 there-mark s Twice = refl

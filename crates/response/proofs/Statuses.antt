@@ -1,7 +1,7 @@
 -- Laws of the value of Status, for the code that reads it.
 -- Assumes nothing.
 use Prim.Native.Nat.{ℕ, ◌≤◌, ◌<◌}
-use mathlib.Core.Path.{◌≡◌, refl, sym}
+use mathlib.Core.Path.{◌≡◌, refl}
 use mathlib.Core.Bool.{Bool, true, false, cond, ◌&&◌, ◌||◌}
 use mathlib.Core.List.{List}
 use Rattle.std.proofs.Common.{Option, None, Some}
@@ -9,13 +9,10 @@ use native.Mathlib.Omega.{arith}
 use lib.Dec.{eqb, leb}
 use lib.ListN.{length, take, get_or, get_or-eq_default}
 use borrow.Author.Tests.{ne_eqb, eqb-true, le-leb, lt-leb, leb-true}
-use Rattle.octets.specs.Outcome.{gives, then, given}
 use Rattle.octets.specs.Decimal.{number_of}
 use Rattle.octets.proofs.Bools.{and-false}
 use Rattle.octets.proofs.Lists.{there}
-use Rattle.response.specs.Status.{three_alone, in_range, status_of, stated_option, stated_outcome}
-use Rattle.response.specs.declared.status.Stated.{Stated}
-use Rattle.response.specs.declared.status.Stated.TheVariants.{Code, Malformed}
+use Rattle.response.specs.Status.{three_alone, in_range, status_of}
 
 -- Three bytes, alone or followed by a space.
 
@@ -78,10 +75,3 @@ status-within v n = by (three_alone v) (number_of (take 3 v))
     by true None e = let z : ◌≡◌ {A = ℕ} 0 1 = cc in omega arith
     by true (Some m) e = in-range m (leb 200 m) (leb m 599) refl refl e
     by false o e = let z : ◌≡◌ {A = ℕ} 0 1 = cc in omega arith
-
--- what the code's answer says of a Status that is there
-pub stated-there : (r : Stated) (v : List ℕ) → stated_option r ≡ status_of v → stated_outcome r ≡ then (given (status_of v) 25) (λ n. gives (Some n))
-stated-there (Code n) v e =
-    let h = status-within v n (sym e) in
-    rw (sym e) (rw (ne_eqb n 0 (λ z. omega (arith, h.0))))
-stated-there Malformed v e = rw (sym e)

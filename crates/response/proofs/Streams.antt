@@ -16,7 +16,6 @@ use Rattle.response.specs.Head.{Head, head_of}
 use Rattle.response.specs.Status.{stated_in}
 use Rattle.response.specs.Location.{filled, location_right}
 use Rattle.response.specs.Table.{
-  Answer,
   Goes,
   local_location,
   other_location,
@@ -32,6 +31,7 @@ use Rattle.response.specs.Table.{
 }
 use Rattle.response.specs.Response.{named, each_once, first_value, is_there, judged_head, response_of}
 use Rattle.response.specs.Claims.{settled, settling, StreamSettles}
+use Rattle.response.specs.declared.table.Answer.{Answer}
 use Rattle.response.specs.declared.table.Action.TheVariants.{Serve, Redirect, RedirectDocument, Document}
 use Rattle.response.proofs.Lies.{front-in}
 

@@ -1,80 +1,54 @@
 -- Laws of the table of actions, for the code of its rows.
 -- Assumes nothing.
-use Prim.Native.Nat.{ℕ, zero, suc, ◌+◌, ◌-◌, ◌≤◌, ◌<◌}
-use mathlib.Core.Path.{◌≡◌, refl, sym, ap, ◌∙◌}
-use mathlib.Core.Bool.{Bool, true, false, cond}
-use mathlib.Core.List.{List, [], ◌∷◌}
+use Prim.Native.Nat.{ℕ}
+use mathlib.Core.Path.{◌≡◌, refl}
+use mathlib.Core.Bool.{Bool, true, false, false≢true}
 use Rattle.std.proofs.Common.{Option, None, Some}
-use native.Mathlib.Nat.{add-zero}
-use native.Mathlib.Omega.{arith}
-use lib.Dec.{eqb}
-use lib.ListN.{length, take, drop, get_or, length-take, length-drop}
-use lib.Seq.{get_or-take, get_or-drop}
-use borrow.Author.Tests.{eq-eqb, ne_eqb, eqb-true}
-use Rattle.octets.specs.Outcome.{refused}
-use Rattle.response.specs.Head.{Value}
-use Rattle.response.specs.Seen.{value_at}
-use Rattle.response.specs.Status.{status_read}
-use Rattle.response.specs.Location.{filled}
-use Rattle.response.specs.Table.{Script, nowhere, local, elsewhere, script, redirecting, script_of, answer_with, table_of}
-use types.Run.{OneOf}
-use denote.Enum.Declared.{tag_of}
-use Rattle.response.specs.declared.fields.Mark.{Mark}
-use Rattle.response.specs.declared.fields.Mark.TheVariants.{Once}
-use Rattle.response.specs.declared.table.Action.TheVariants.{RedirectDocument}
-use Rattle.response.specs.contracts.fields.Mark.{the_type}
-use Rattle.response.proofs.Marks.{not-once}
+use Rattle.std.specs.Option.{is_some, unwrap_or}
+use borrow.Author.Tests.{eq-eqb, ne_eqb}
+use Rattle.octets.specs.Outcome.{refused, gives}
+use Rattle.octets.specs.declared.span.Span.{Span}
+use Rattle.response.specs.Table.{Script, elsewhere, script, redirecting, status_or, table_of}
+use Rattle.response.specs.declared.table.Action.TheVariants.{Redirect, RedirectDocument}
 
--- A redirect with document.
+-- Another Location, without Content-Type and with it.
 
-none-redirects : redirecting 0 ≡ false
-unfolding redirecting
-none-redirects = refl
+module _ (p q : Span) (n : ℕ) where
+  abbrev x : Option ℕ → Bool → Script
+  x t c = script elsewhere p.start p.len t c n q.start q.len
 
-module _ (code a l n b r : ℕ) where
-  abbrev x : Script
-  x = script elsewhere a l (status_read code) true n b r
-
-  pub other-status : redirecting code ≡ false → table_of x ≡ refused 25
+  pub stated : (t : Option ℕ) → is_some t ≡ true → table_of (x t false) ≡ refused 25
   unfolding table_of
-  other-status e = by (eqb code 0)
-    where
-      by : (z : Bool) → table_of (script elsewhere a l (cond z None (Some code)) true n b r) ≡ refused 25
-      by true = refl
-      by false = rw e
+  stated None e = absurd (false≢true e)
+  stated (Some m) e = refl
 
-  pub redirect-status : redirecting code ≡ true → table_of x ≡ answer_with x RedirectDocument code
+  pub some-body : (t : Option ℕ) → (q.len ≡ 0 → ⊥) → table_of (x t false) ≡ refused 25
   unfolding table_of
-  redirect-status e = by (eqb code 0) refl
-    where
-      by : (z : Bool) → eqb code 0 ≡ z → table_of (script elsewhere a l (cond z None (Some code)) true n b r) ≡ answer_with x RedirectDocument code
-      by true q =
-          let w : ◌≡◌ {A = Bool} true false = sym e ∙ ap redirecting (eqb-true code 0 q) ∙ none-redirects in
-          cc
-      by false q = rw e
+  some-body None h = rw (ne_eqb q.len 0 h)
+  some-body (Some m) h = refl
 
--- A Location of l bytes at a.
+  pub redirected :
+      (t : Option ℕ) → is_some t ≡ false → q.len ≡ 0
+      → table_of (x t false) ≡ gives (record { action = Redirect; status = 302; location = p; body = q })
+  unfolding table_of
+  redirected None e h = rw (eq-eqb q.len 0 h)
+  redirected (Some m) e h = cc
 
-pub filled-some : (s : List ℕ) (m : Mark) (a l : ℕ) → filled (value_at s m) ≡ true → m ≡ Once a l → 0 < l
-filled-some s m a zero f e =
-    let q : filled (value_at s (Once a 0)) ≡ true = rw e at f in
-    let z : ◌≡◌ {A = ℕ} 0 1 = cc in
-    omega arith
-filled-some s m a (suc l) f e = omega arith
+  pub not-stated : (t : Option ℕ) → t ≡ None → table_of (x t true) ≡ refused 25
+  unfolding table_of
+  not-stated t e = rw e
 
-module _ (s : List ℕ) (m : Mark) (b n : ℕ) (c : Bool) (t : Option ℕ) where
-  pub no-script : OneOf (0 ∷ (2 ∷ [])) (tag_of the_type m) → script_of s b n c (value_at s m) t ≡ script nowhere 0 0 t c n b (length s - b)
-  no-script h = ap (λ (o : Option Value). script_of s b n c o t) (not-once s m h)
+  pub other-status : (t : Option ℕ) (m : ℕ) → t ≡ Some m → redirecting m ≡ false → table_of (x t true) ≡ refused 25
+  unfolding table_of
+  other-status t m e h = rw (e, h)
 
-  module _ (a l : ℕ) (e : m ≡ Once a l) (inside : a + l ≤ length s) (some_bytes : 0 < l) where
-    first_byte : get_or (take l (drop a s)) 0 0 ≡ get_or s a 0
-    first_byte = get_or-take l (drop a s) 0 0 some_bytes ∙ get_or-drop a s 0 0 ∙ ap (λ (k : ℕ). get_or s k 0) (add-zero a)
+  pub redirect-status :
+      (t : Option ℕ) (m : ℕ) → t ≡ Some m → redirecting m ≡ true
+      → table_of (x t true) ≡ gives (record { action = RedirectDocument; status = m; location = p; body = q })
+  unfolding table_of
+  redirect-status t m e h = rw (e, h)
 
-    all-bytes : length (take l (drop a s)) ≡ l
-    all-bytes = simp (length-take, length-drop) (omega arith)
-
-    pub local-script : get_or s a 0 ≡ 47 → script_of s b n c (value_at s m) t ≡ script local a l t c n b (length s - b)
-    local-script h = ap (λ (k : Mark). script_of s b n c (value_at s k) t) e ∙ rw (first_byte, all-bytes, eq-eqb _ _ h)
-
-    pub other-script : (get_or s a 0 ≡ 47 → ⊥) → script_of s b n c (value_at s m) t ≡ script elsewhere a l t c n b (length s - b)
-    other-script h = ap (λ (k : Mark). script_of s b n c (value_at s k) t) e ∙ rw (first_byte, all-bytes, ne_eqb _ _ h)
+-- the library's word for "Status or"
+pub status-or : (n : ℕ) (t : Option ℕ) → unwrap_or t n ≡ status_or n t
+status-or n None = refl
+status-or n (Some m) = refl

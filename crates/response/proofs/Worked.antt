@@ -21,8 +21,9 @@ use Rattle.http_head.specs.Fields.{field_of}
 use Rattle.response.specs.Head.{bare_length, lines_from, fields_of, head_of}
 use Rattle.response.specs.Status.{three_alone, status_of}
 use Rattle.response.specs.Location.{is_elsewhere}
-use Rattle.response.specs.Table.{Answer, redirecting, table_of}
+use Rattle.response.specs.Table.{redirecting, table_of}
 use Rattle.response.specs.Response.{named, response_of}
+use Rattle.response.specs.declared.table.Answer.{Answer}
 use Rattle.response.specs.declared.table.Action.{Action}
 use Rattle.response.specs.declared.table.Action.TheVariants.{Serve, Redirect, RedirectDocument, Document}
 
@@ -40,7 +41,7 @@ refuses n t = record { input = output t; answer = refused n }
 -- action, status, start and length of the Location value and of the body
 abbrev pub answer : Action → ℕ → ℕ → ℕ → ℕ → ℕ → Outcome Answer
 answer a t l m b n =
-    gives (record { action = a; status = t; location_start = l; location_length = m; body_start = b; body_length = n })
+    gives (record { action = a; status = t; location = record { start = l; len = m }; body = record { start = b; len = n } })
 
 abbrev pub answers : String → Action → ℕ → ℕ → ℕ → ℕ → ℕ → Case
 answers s a t l m b n = record { input = output s; answer = answer a t l m b n }

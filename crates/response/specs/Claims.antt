@@ -7,8 +7,9 @@ use Rattle.octets.specs.Kinds.{one_of, within}
 use Rattle.targets.specs.Target.{target_of}
 use Rattle.response.specs.Head.{Value, Head, head_of}
 use Rattle.response.specs.Location.{accepted}
-use Rattle.response.specs.Table.{Answer, Script, serves, redirects, redirects_with_document, has_document, has_location, redirecting, table_of}
+use Rattle.response.specs.Table.{Script, serves, redirects, redirects_with_document, has_document, has_location, redirecting, table_of}
 use Rattle.response.specs.Response.{named, first_value, is_there, response_of}
+use Rattle.response.specs.declared.table.Answer.{Answer}
 use Rattle.response.specs.declared.table.Action.{Action}
 use Rattle.response.specs.declared.table.Action.TheVariants.{Serve, Redirect, RedirectDocument, Document}
 
@@ -33,10 +34,8 @@ row_answer x a t =
     record {
       action = a;
       status = t;
-      location_start = x.location_start;
-      location_length = x.location_length;
-      body_start = x.body_start;
-      body_length = x.body_length;
+      location = record { start = x.location_start; len = x.location_length };
+      body = record { start = x.body_start; len = x.body_length };
     }
 
 -- the rows exclude each other, the row that fits gives the whole answer, and an answer is that of a row that fits
@@ -84,7 +83,7 @@ DocumentIs200 =
 
 -- the bytes of the output at the place of the Location
 abbrev pub location_in : List ℕ → Answer → List ℕ
-location_in s a = take a.location_length (drop a.location_start s)
+location_in s a = take a.location.len (drop a.location.start s)
 
 -- "serve that target": it obeys the target rules
 abbrev pub ServedIsTarget : Type 0
@@ -104,8 +103,8 @@ LocationStands =
 
 -- .. "and of the body": the places lie within the output, and the body is the rest of it
 pub record Within (s : List ℕ) (a : Answer) : Type 0 where
-  pub location : a.location_start + a.location_length ≤ length s
-  pub body : a.body_start + a.body_length ≡ length s
+  pub location : a.location.start + a.location.len ≤ length s
+  pub body : a.body.start + a.body.len ≡ length s
 
 abbrev pub PlacesWithin : Type 0
 PlacesWithin = (s : List ℕ) (a : Answer) → response_of s ≡ gives a → Within s a
@@ -126,9 +125,9 @@ settled o =
     (record {
       action = a.action;
       status = a.status;
-      location_start = a.location_start;
-      location_length = a.location_length;
-      body_start = a.body_start;
+      location_start = a.location.start;
+      location_length = a.location.len;
+      body_start = a.body.start;
     }))
 
 -- "The input is the script's whole output", and yet its first 8,193 bytes settle the refusal, the action, the status, the Location and

@@ -7,7 +7,8 @@ use Rattle.octets.specs.Compare.{same_letters}
 use Rattle.response.specs.Head.{Value, Named, Head, head_of}
 use Rattle.response.specs.Status.{stated_in}
 use Rattle.response.specs.Location.{filled, location_right}
-use Rattle.response.specs.Table.{Answer, script_of, table_of}
+use Rattle.response.specs.Table.{script_of, table_of}
+use Rattle.response.specs.declared.table.Answer.{Answer}
 
 -- the fields with a name: names are "compared letter case aside"
 unfoldable pub named : List ℕ → List Named → List Named

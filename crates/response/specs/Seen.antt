@@ -3,35 +3,37 @@
 use Rattle.std.specs.Prelude.{ℕ, ◌+◌, ◌≤◌, Bool, true, false, cond, not, List, [], ◌∷◌, eqb, length, take, drop, Option, None, Some}
 use Rattle.octets.specs.Text.{bytes}
 use Rattle.octets.specs.Compare.{same_letters}
+use Rattle.octets.specs.declared.span.Span.{Span}
 use Rattle.response.specs.Head.{Value, Named, Head}
 use Rattle.response.specs.declared.fields.Mark.{Mark}
 use Rattle.response.specs.declared.fields.Mark.TheVariants.{Absent, Once, Twice}
 use Rattle.response.specs.declared.fields.Seen.{Seen}
-use Rattle.response.specs.declared.fields.LineStep.{LineStep}
-use Rattle.response.specs.declared.fields.LineStep.TheVariants.{Next, Malformed as StepMalformed}
 use Rattle.response.specs.declared.head.HeadPlace.{HeadPlace}
-use Rattle.response.specs.declared.head.HeadPlace.TheVariants.{Ends, Malformed}
 
 -- a field of the wanted name after what the mark tells
-abbrev pub again : Mark → ℕ → ℕ → Mark
-again Absent start len = Once start len
-again (Once a l) start len = Twice
-again Twice start len = Twice
+abbrev pub again : Mark → Span → Mark
+again Absent value = Once value
+again (Once p) value = Twice
+again Twice value = Twice
 
 -- a field after what the mark tells of the fields whose name is w
-abbrev pub noted_of : List ℕ → Mark → List ℕ → ℕ → ℕ → Mark
-noted_of w m name start len = cond (same_letters name w) (again m start len) m
+abbrev pub noted_of : List ℕ → Mark → List ℕ → Span → Mark
+noted_of w m name value = cond (same_letters name w) (again m value) m
 
-abbrev pub see_of : Seen → List ℕ → ℕ → ℕ → Seen
-see_of seen name start len =
+abbrev pub see_of : Seen → List ℕ → Span → Seen
+see_of seen name value =
     record {
-      content = noted_of (bytes "content-type") seen.content name start len;
-      location = noted_of (bytes "location") seen.location name start len;
-      status = noted_of (bytes "status") seen.status name start len;
+      content = noted_of (bytes "content-type") seen.content name value;
+      location = noted_of (bytes "location") seen.location name value;
+      status = noted_of (bytes "status") seen.status name value;
     }
 
+-- where a value stands
+abbrev pub place_of : Value → Span
+place_of v = record { start = v.start; len = length v.bytes }
+
 abbrev pub see_field : Seen → Named → Seen
-see_field seen f = see_of seen f.name f.value.start (length f.value.bytes)
+see_field seen f = see_of seen f.name (place_of f.value)
 
 abbrev pub seen_with : Seen → Option Named → Option Seen
 seen_with seen None = None
@@ -45,39 +47,24 @@ seen_from seen (f ∷ fs) = seen_from (see_field seen f) fs
 abbrev pub none_seen : Seen
 none_seen = record { content = Absent; location = Absent; status = Absent }
 
--- what is kept of a head
-pub record Kept : Type 0 where
-  pub ends : ℕ
-  pub fields : ℕ
-  pub seen : Seen
-
--- .. where n fields were seen before
-abbrev pub seen_on : ℕ → Seen → Option Head → Option Kept
+-- what is kept of a head, where n fields were seen before
+abbrev pub seen_on : ℕ → Seen → Option Head → Option HeadPlace
 seen_on n seen None = None
-seen_on n seen (Some h) = Some (record { ends = h.ends; fields = n + length h.fields; seen = seen_from seen h.fields })
+seen_on n seen (Some h) = Some (record { end = h.ends; fields = n + length h.fields; seen = seen_from seen h.fields })
 
-abbrev pub seen_head : Option Head → Option Kept
+abbrev pub seen_head : Option Head → Option HeadPlace
 seen_head o = seen_on 0 none_seen o
-
--- what the code's answers say
-abbrev pub step_option : LineStep → Option Seen
-step_option (Next seen) = Some seen
-step_option StepMalformed = None
-
-abbrev pub head_option : HeadPlace → Option Kept
-head_option (Ends e n seen) = Some (record { ends = e; fields = n; seen = seen })
-head_option Malformed = None
 
 -- the value that a mark tells, in the output s
 abbrev pub value_at : List ℕ → Mark → Option Value
 value_at s Absent = None
-value_at s (Once a l) = Some (record { start = a; bytes = take l (drop a s) })
+value_at s (Once p) = Some (record { start = p.start; bytes = take p.len (drop p.start s) })
 value_at s Twice = None
 
 -- .. and that it lies within s
 abbrev pub MarkIn : List ℕ → Mark → Type 0
 MarkIn s Absent = Unit {0}
-MarkIn s (Once a l) = a + l ≤ length s
+MarkIn s (Once p) = p.start + p.len ≤ length s
 MarkIn s Twice = Unit {0}
 
 -- .. for each of the three
@@ -89,17 +76,17 @@ pub record SeenIn (s : List ℕ) (seen : Seen) : Type 0 where
 -- a mark tells one field or none
 abbrev pub not_twice : Mark → Bool
 not_twice Absent = true
-not_twice (Once a l) = true
+not_twice (Once p) = true
 not_twice Twice = false
 
 -- a value that a mark tells is not empty
 abbrev pub mark_filled : Mark → Bool
 mark_filled Absent = true
-mark_filled (Once a l) = not (eqb l 0)
+mark_filled (Once p) = not (eqb p.len 0)
 mark_filled Twice = true
 
 -- a mark tells one field
 abbrev pub is_once : Mark → Bool
 is_once Absent = false
-is_once (Once a l) = true
+is_once (Once p) = true
 is_once Twice = false

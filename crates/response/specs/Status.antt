@@ -1,12 +1,12 @@
 -- The value of Status.
 -- Assumes nothing.
-use Rattle.std.specs.Prelude.{ℕ, Bool, cond, ◌||◌, List, eqb, length, take, get_or, Option, None, Some}
-use Rattle.octets.specs.Outcome.{Outcome, refused, gives, then, given}
+use Rattle.std.specs.Prelude.{ℕ, Bool, cond, ◌||◌, List, eqb, length, take, get_or, Option, None, Some, Result}
+use Rattle.octets.specs.Outcome.{Outcome, gives, then, given}
 use Rattle.octets.specs.Kinds.{within}
 use Rattle.octets.specs.Decimal.{number_of}
+use Rattle.octets.specs.Refusal.{outcome}
+use Rattle.octets.specs.declared.refusal.Refusal.{Refusal}
 use Rattle.response.specs.Head.{Value}
-use Rattle.response.specs.declared.status.Stated.{Stated}
-use Rattle.response.specs.declared.status.Stated.TheVariants.{Code, Malformed}
 
 -- "three .., alone or followed by a space and any reason": a space, which is 32, stands behind the third byte
 unfoldable pub three_alone : List ℕ → Bool
@@ -26,14 +26,6 @@ abbrev pub stated_in : Option Value → Outcome (Option ℕ)
 stated_in None = gives None
 stated_in (Some v) = then (given (status_of v.bytes) 25) (λ n. gives (Some n))
 
--- what the code's answer says: of a value, and of a Status that may not be there, where 0 tells that it is not
-abbrev pub stated_option : Stated → Option ℕ
-stated_option (Code n) = Some n
-stated_option Malformed = None
-
-abbrev pub status_read : ℕ → Option ℕ
-status_read n = cond (eqb n 0) None (Some n)
-
-abbrev pub stated_outcome : Stated → Outcome (Option ℕ)
-stated_outcome (Code n) = gives (status_read n)
-stated_outcome Malformed = refused 25
+-- what the code's answer says
+abbrev pub stated_outcome : Result (Option ℕ) Refusal → Outcome (Option ℕ)
+stated_outcome = outcome (λ o. o)

@@ -1,30 +1,20 @@
 -- The table of actions.
 -- Assumes nothing.
-use Rattle.std.specs.Prelude.{ℕ, ◌-◌, Bool, true, false, cond, not, ◌&&◌, List, [], ◌∷◌, eqb, length, Option, None, Some}
+use Rattle.std.specs.Prelude.{ℕ, ◌-◌, Bool, true, false, cond, not, ◌&&◌, List, [], ◌∷◌, eqb, length, Option, None, Some, Result}
 use Rattle.octets.specs.Outcome.{Outcome, refused, gives}
 use Rattle.octets.specs.Kinds.{one_of}
+use Rattle.octets.specs.Refusal.{outcome}
+use Rattle.octets.specs.declared.refusal.Refusal.{Refusal}
 use Rattle.response.specs.Head.{Value}
 use Rattle.response.specs.Location.{is_local}
 use Rattle.response.specs.declared.table.Action.{Action}
 use Rattle.response.specs.declared.table.Action.TheVariants.{Serve, Redirect, RedirectDocument, Document}
-use Rattle.response.specs.declared.table.Response.{Response}
-use Rattle.response.specs.declared.table.Response.TheVariants.{Answer as ResponseAnswer, Refused}
+use Rattle.response.specs.declared.table.Answer.{Answer}
 
 -- "The answer is the action, its status (0 for serving a target), and start and length of the Location value and of the body, the first two
--- 0 where there is no Location."
-pub record Answer : Type 0 where
-  pub action : Action
-  pub status : ℕ
-  pub location_start : ℕ
-  pub location_length : ℕ
-  pub body_start : ℕ
-  pub body_length : ℕ
-
--- what the code's answer says
-abbrev pub response_outcome : Response → Outcome Answer
-response_outcome (ResponseAnswer a t l m b n) =
-    gives (record { action = a; status = t; location_start = l; location_length = m; body_start = b; body_length = n })
-response_outcome (Refused k) = refused k
+-- 0 where there is no Location.": what the code's answer says
+abbrev pub response_outcome : Result Answer Refusal → Outcome Answer
+response_outcome = outcome (λ a. a)
 
 -- where the Location leads: "no Location", "local Location", "other Location"
 pub data Goes : Type 0 where
@@ -122,10 +112,8 @@ answer_with x a t =
     (record {
       action = a;
       status = t;
-      location_start = x.location_start;
-      location_length = x.location_length;
-      body_start = x.body_start;
-      body_length = x.body_length;
+      location = record { start = x.location_start; len = x.location_length };
+      body = record { start = x.body_start; len = x.body_length };
     })
 
 -- "serve that target", with "0 for serving a target", "redirect 302", "redirect with document", with its Status, "document, Status or 200"

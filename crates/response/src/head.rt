@@ -1,27 +1,24 @@
 // The fields of the head, and where it ends.
 ghost use Rattle.std.specs.Prelude.{◌≡◌, ◌≤◌, length, take};
-ghost use Rattle.octets.specs.KindTable.{table};
 ghost use Rattle.response.specs.Head.{head_with, lines_at};
-ghost use Rattle.response.specs.Seen.{head_option, seen_head};
+ghost use Rattle.response.specs.Seen.{seen_head};
 
-use crate::fields::{LineStep, Mark, Seen, line_step};
+use crate::fields::{Mark, Seen, line_step};
 use crate::lines::bare_end;
 use octets::scan::find;
 
-#[derive(Clone, Copy)]
-pub enum HeadPlace {
-    Ends {
-        end: usize,
-        fields: usize,
-        seen: Seen,
-    },
-    Malformed,
+// Where a head ends, how many fields it has, and what is known of the three.
+#[derive(Clone, Copy, Debug, PartialEq, Eq)]
+pub struct HeadPlace {
+    pub end: usize,
+    pub fields: usize,
+    pub seen: Seen,
 }
 
 // The head in the first bytes of the output.
-fn head_in(kinds: &[u8; 256], t: &[u8]) -> HeadPlace
-    requires { (kinds.now ≡ table) × (length t.now ≤ 8192) }
-    ensures { head_option result ≡ seen_head (head_with 64 (lines_at 0 t.now)) }
+fn head_in(t: &[u8]) -> Option<HeadPlace>
+    requires { length t.now ≤ 8192 }
+    ensures { result ≡ seen_head (head_with 64 (lines_at 0 t.now)) }
 {
     let mut seen = Seen {
         content: Mark::Absent,
@@ -30,40 +27,34 @@ fn head_in(kinds: &[u8; 256], t: &[u8]) -> HeadPlace
     };
     let mut n: usize = 0;
     let mut at: usize = 0;
+    // A turn goes on by a line: no `for`.
     while at < t.len() {
         let e = find(t, at, b'\n');
         if t.len() <= e {
-            return HeadPlace::Malformed;
+            return None;
         }
         let l = bare_end(t, at, e);
         if l == at {
-            return HeadPlace::Ends {
+            return Some(HeadPlace {
                 end: e + 1,
                 fields: n,
                 seen,
-            };
+            });
         }
         if n == 64 {
-            return HeadPlace::Malformed;
+            return None;
         }
-        let r = line_step(kinds, &t[at..l], at, seen);
-        let LineStep::Next(next) = r else {
-            return HeadPlace::Malformed;
-        };
-        seen = next;
+        seen = line_step(&t[at..l], at, seen)?;
         n += 1;
         at = e + 1;
     }
-    HeadPlace::Malformed
+    None
 }
 
 // The head of a script's whole output.
-pub fn head(kinds: &[u8; 256], s: &[u8]) -> HeadPlace
-    requires { kinds.now ≡ table }
-    ensures { head_option result ≡ seen_head (head_with 64 (lines_at 0 (take 8192 s.now))) }
+pub fn head(s: &[u8]) -> Option<HeadPlace>
+    ensures { result ≡ seen_head (head_with 64 (lines_at 0 (take 8192 s.now))) }
 {
-    if s.len() < 8192 {
-        return head_in(kinds, s);
-    }
-    head_in(kinds, &s[..8192])
+    let limit = s.len().min(8192);
+    head_in(&s[..limit])
 }

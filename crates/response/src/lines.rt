@@ -7,11 +7,8 @@ pub fn bare_end(t: &[u8], at: usize, end: usize) -> usize
     requires { (at ≤ end) × (end ≤ length t.now) }
     ensures { result ≡ at + bare_length (take (end - at) (drop at t.now)) }
 {
-    if end == at {
-        return end;
+    if end != at && t[end - 1] == b'\r' {
+        return end - 1;
     }
-    if t[end - 1] != b'\r' {
-        return end;
-    }
-    end - 1
+    end
 }

@@ -1,14 +1,15 @@
 // The table of actions.
 ghost use Rattle.std.specs.Prelude.{ℕ, ◌≤◌, ◌≡◌, Bool, Option, true, length};
-ghost use Rattle.octets.specs.Outcome.{refusal_of};
 ghost use Rattle.response.specs.Seen.{value_at, MarkIn};
-ghost use Rattle.response.specs.Status.{status_read};
 ghost use Rattle.response.specs.Location.{filled};
 ghost use Rattle.response.specs.Table.{redirecting, nowhere, local, elsewhere, script, script_of, table_of, response_outcome};
 
 use crate::fields::Mark;
+use octets::refusal::Refusal;
+use octets::span::Span;
 
-#[derive(Clone, Copy)]
+// What the server is to do.
+#[derive(Clone, Copy, Debug, PartialEq, Eq)]
 pub enum Action {
     Serve,
     Redirect,
@@ -16,145 +17,87 @@ pub enum Action {
     Document,
 }
 
-#[derive(Clone, Copy)]
-pub enum Response {
-    Answer {
-        action: Action,
-        status: u64,
-        location: usize,
-        location_len: usize,
-        body: usize,
-        body_len: usize,
-    },
-    Refused(u8),
-}
-
-impl Response {
-    // The number of the refusal.
-    pub fn number(self) -> u8
-        ensures { result ≡ refusal_of (response_outcome self) }
-    {
-        match self {
-            Response::Answer {
-                action: _,
-                status: _,
-                location: _,
-                location_len: _,
-                body: _,
-                body_len: _,
-            } => 0,
-            Response::Refused(n) => n,
-        }
-    }
+// An action, its status (0 for serving a target), and where the Location's value and the body stand: without a Location its place is 0, 0.
+#[derive(Clone, Copy, Debug, PartialEq, Eq)]
+pub struct Answer {
+    pub action: Action,
+    pub status: u64,
+    pub location: Span,
+    pub body: Span,
 }
 
 // Whether a redirect with document can have the status.
+#[tactic(auto, using(octets::proofs::Tests::tests), unfolding(crate::specs::Table::redirecting))]
 fn is_redirecting(code: u64) -> bool
     ensures { result ≡ redirecting code }
 {
-    if code == 301 {
-        return true;
-    }
-    if code == 302 {
-        return true;
-    }
-    if code == 303 {
-        return true;
-    }
-    if code == 307 {
-        return true;
-    }
-    if code == 308 {
-        return true;
-    }
-    false
+    matches!(code, 301 | 302 | 303 | 307 | 308)
 }
 
 // No Location: whatever the number of fields.
-fn document(typed: bool, code: u64, body: usize, rest: usize) -> Response
-    ensures { (n : ℕ) → response_outcome result ≡ table_of (script nowhere 0 0 (status_read code) typed n body rest) }
+fn document(typed: bool, code: Option<u64>, body: Span) -> Result<Answer, Refusal>
+    ensures { (n : ℕ) → response_outcome result ≡ table_of (script nowhere 0 0 code typed n body.start body.len) }
 {
     if !typed {
-        return Response::Refused(25);
+        return Err(Refusal::Contradiction);
     }
-    if code == 0 {
-        return Response::Answer {
-            action: Action::Document,
-            status: 200,
-            location: 0,
-            location_len: 0,
-            body,
-            body_len: rest,
-        };
-    }
-    Response::Answer {
+    Ok(Answer {
         action: Action::Document,
-        status: code,
-        location: 0,
-        location_len: 0,
+        status: code.unwrap_or(200),
+        location: Span { start: 0, len: 0 },
         body,
-        body_len: rest,
-    }
+    })
 }
 
 // A local Location: whatever the status, and with Content-Type or without.
-fn serve(start: usize, len: usize, fields: usize, body: usize, rest: usize) -> Response
-    ensures { (t : Option ℕ) (c : Bool) → response_outcome result ≡ table_of (script local start len t c fields body rest) }
+fn serve(location: Span, fields: usize, body: Span) -> Result<Answer, Refusal>
+    ensures { (t : Option ℕ) (c : Bool) → response_outcome result ≡ table_of (script local location.start location.len t c fields body.start body.len) }
 {
-    if fields != 1 {
-        return Response::Refused(25);
+    if fields != 1 || body.len != 0 {
+        return Err(Refusal::Contradiction);
     }
-    if rest != 0 {
-        return Response::Refused(25);
-    }
-    Response::Answer {
+    Ok(Answer {
         action: Action::Serve,
         status: 0,
-        location: start,
-        location_len: len,
+        location,
         body,
-        body_len: rest,
-    }
+    })
 }
 
 // Another Location, with a document: whatever the number of fields.
-fn redirect_document(start: usize, len: usize, code: u64, body: usize, rest: usize) -> Response
-    ensures { (n : ℕ) → response_outcome result ≡ table_of (script elsewhere start len (status_read code) true n body rest) }
+fn redirect_document(location: Span, code: Option<u64>, body: Span) -> Result<Answer, Refusal>
+    ensures { (n : ℕ) → response_outcome result ≡ table_of (script elsewhere location.start location.len code true n body.start body.len) }
 {
-    if !is_redirecting(code) {
-        return Response::Refused(25);
+    let Some(status) = code else {
+        return Err(Refusal::Contradiction);
+    };
+    if !is_redirecting(status) {
+        return Err(Refusal::Contradiction);
     }
-    Response::Answer {
+    Ok(Answer {
         action: Action::RedirectDocument,
-        status: code,
-        location: start,
-        location_len: len,
+        status,
+        location,
         body,
-        body_len: rest,
-    }
+    })
 }
 
 // Another Location: whatever the number of fields.
-fn redirect(start: usize, len: usize, typed: bool, code: u64, body: usize, rest: usize) -> Response
-    ensures { (n : ℕ) → response_outcome result ≡ table_of (script elsewhere start len (status_read code) typed n body rest) }
+fn redirect(location: Span, typed: bool, code: Option<u64>, body: Span) -> Result<Answer, Refusal>
+    ensures { (n : ℕ) → response_outcome result ≡ table_of (script elsewhere location.start location.len code typed n body.start body.len) }
 {
     if typed {
-        return redirect_document(start, len, code, body, rest);
+        return redirect_document(location, code, body);
     }
-    if code != 0 {
-        return Response::Refused(25);
+    if code.is_some() || body.len != 0 {
+        return Err(Refusal::Contradiction);
     }
-    if rest != 0 {
-        return Response::Refused(25);
-    }
-    Response::Answer {
+    Ok(Answer {
         action: Action::Redirect,
         status: 302,
-        location: start,
-        location_len: len,
+        location,
         body,
-        body_len: rest,
-    }
+    })
 }
 
 // The row of the table for an output whose Location is right, and whose body starts at a place.
@@ -162,19 +105,22 @@ pub fn table_row(
     s: &[u8],
     location: Mark,
     typed: bool,
-    code: u64,
+    code: Option<u64>,
     fields: usize,
     body: usize,
-) -> Response
+) -> Result<Answer, Refusal>
     requires { MarkIn s.now location × (filled (value_at s.now location) ≡ true) × (body ≤ length s.now) }
-    ensures { response_outcome result ≡ table_of (script_of s.now body fields typed (value_at s.now location) (status_read code)) }
+    ensures { response_outcome result ≡ table_of (script_of s.now body fields typed (value_at s.now location) code) }
 {
-    let rest = s.len() - body;
-    let Mark::Once { start, len } = location else {
-        return document(typed, code, body, rest);
+    let rest = Span {
+        start: body,
+        len: s.len() - body,
     };
-    if s[start] == b'/' {
-        return serve(start, len, fields, body, rest);
+    let Mark::Once(place) = location else {
+        return document(typed, code, rest);
+    };
+    if s[place.start] == b'/' {
+        return serve(place, fields, rest);
     }
-    redirect(start, len, typed, code, body, rest)
+    redirect(place, typed, code, rest)
 }

@@ -1,23 +1,20 @@
-use mathlib.Core.Path.{sym, ap, ◌∙◌}
-use lib.Seq.{length-take-le}
-use Rattle.http_head.specs.Fields.{line_option}
-use Rattle.response.proofs.FieldPlaces.{Told, told, unseen, seen-line}
+use mathlib.Core.Path.{sym}
+use Rattle.response.proofs.FieldPlaces.{Told, told, seen-line}
 use native.Mathlib.Omega.{arith}
 use Rattle.response.proofs.fields.line_step.Goals as goal
-use Rattle.response.proofs.fields.line_step.Goals.{In-Field}
+use Rattle.response.proofs.fields.line_step.Goals.{In_ok-field}
 
 -- the field of the line
-field : (c : In-Field) → Told c.args.line.now c.in-Field.name_len c.in-Field.value c.in-Field.value_len
-field c = told _ _ _ _ (sym (ap line_option c.in-Field.is) ∙ c.field_line-l.ensures)
+field : (c : In_ok-field) → Told c.args.line.now c.in_ok-field.field
+field c = told _ _ (c.in_ok-field.ensures {u = tt})
 
-pub returns-in_default : goal.returns-in_default
-returns-in_default c = unseen _ _ _ (sym (ap line_option c.in_default.is) ∙ c.field_line-l.ensures)
+pub overflow_add-value : goal.overflow_add-value
+overflow_add-value c =
+    let f = field (goal.at.overflow_add-value c).In_ok-field in
+    omega (arith, f.name_inside, f.value_inside, c.requires)
 
-pub slice_bounds-see-end : goal.slice_bounds-see-end
-slice_bounds-see-end c = sym (length-take-le _ c.args.line.now (field c).name_inside)
-
-pub overflow_add-at : goal.overflow_add-at
-overflow_add-at c = omega (arith, (field c).name_inside, (field c).value_inside, c.requires.1)
+pub of-requires : goal.of-requires
+of-requires c = (field (goal.at.of-requires c).In_ok-field).name_inside
 
 pub returns : goal.returns
-returns c = seen-line (field (goal.at.returns c).In-Field) _ _ _ c.see.ensures
+returns c = seen-line (field (goal.at.returns c).In_ok-field) _ _ _ (rw (sym c.of.ensures.0) c.see.ensures)

@@ -1,8 +1,7 @@
-use mathlib.Core.Path.{◌≡◌, refl, sym, ap, ◌∙◌}
+use mathlib.Core.Path.{◌≡◌, refl, sym, ◌∙◌}
 use mathlib.Core.List.{List}
 use Prim.Native.Nat.{ℕ, ◌-◌, ◌≤◌}
 use lib.ListN.{take, drop, length-take}
-use Rattle.response.specs.Seen.{step_option}
 use Rattle.response.proofs.LineEnds.{bare-le, part_length}
 use Rattle.response.proofs.Heads.{at_end, unended, ends, too_many, bad-line, onward}
 use native.Mathlib.Omega.{arith}
@@ -60,14 +59,14 @@ slice_bounds-line_step-start c = line-starts (goal.at.slice_bounds-line_step-sta
 pub slice_bounds-line_step-end : goal.slice_bounds-line_step-end
 slice_bounds-line_step-end c = omega (arith, line-ends (goal.at.slice_bounds-line_step-end c).After-bare_end-l, c.if-t-e.false)
 
-pub line_step-r-requires : goal.line_step-r-requires
-line_step-r-requires c =
-    let k = (goal.at.line_step-r-requires c).After-bare_end-l in
-    (c.requires.0, omega (arith, line-starts k, line-ends k, c.if-t-e.false, c.requires.1, length-take (c.bare_end-l.result - start k) (drop (start k) (t k))))
+pub line_step-requires : goal.line_step-requires
+line_step-requires c =
+    let k = (goal.at.line_step-requires c).After-bare_end-l in
+    omega (arith, line-starts k, line-ends k, c.if-t-e.false, c.requires, length-take (c.bare_end-l.result - start k) (drop (start k) (t k)))
 
-pub returns-in_default : goal.returns-in_default
-returns-in_default c =
-    sym (bad-line c.loop-at.invariant _ c.find-e.ensures c.if-t-e.false _ c.bare_end-l.ensures c.if-l-at.false (sym (ap step_option c.in_default.is) ∙ c.line_step-r.ensures))
+pub returns-in_err-seen : goal.returns-in_err-seen
+returns-in_err-seen c =
+    c.from_residual.ensures ∙ sym (bad-line c.loop-at.invariant _ c.find-e.ensures c.if-t-e.false _ c.bare_end-l.ensures c.if-l-at.false (c.in_err-seen.ensures {u = tt}))
 
 pub overflow_add-n : goal.overflow_add-n
 overflow_add-n c = omega (arith, c.loop-at.invariant.count)
@@ -80,7 +79,7 @@ loop-at-smaller c = omega (arith, c.if-t-e.false, starts (goal.at.loop-at-smalle
 
 pub loop-at-preserved : goal.loop-at-preserved
 loop-at-preserved c =
-    onward c.loop-at.invariant _ c.find-e.ensures c.if-t-e.false _ c.bare_end-l.ensures c.if-l-at.false (λ (e : c.loop-at.n ≡ 64). c.if-n-eq64.false (omega (arith, e, c.loop-at.invariant.count))) _ (sym (ap step_option c.in-Next.is) ∙ c.line_step-r.ensures)
+    onward c.loop-at.invariant _ c.find-e.ensures c.if-t-e.false _ c.bare_end-l.ensures c.if-l-at.false (λ (e : c.loop-at.n ≡ 64). c.if-n-eq64.false (omega (arith, e, c.loop-at.invariant.count))) _ (c.in_ok-seen.ensures {u = tt})
 
 pub returns : goal.returns
 returns c = sym (at_end c.loop-at.invariant c.loop-at-test.false)

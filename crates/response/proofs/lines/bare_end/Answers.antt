@@ -1,21 +1,13 @@
 use Rattle.response.proofs.LineEnds.{bare-none, bare-whole, bare-cut}
-use native.Mathlib.Omega.{arith}
 use Rattle.response.proofs.lines.bare_end.Goals as goal
+use Rattle.response.proofs.lines.bare_end.Goals.{else-end-at-via-then-end-at+else-t-end-eq13, else-end-at-via-else-end-at}
 
-pub returns-then-end-at : goal.returns-then-end-at
-returns-then-end-at c = bare-none _ _ _ c.requires.0 c.requires.1 c.if-end-at.true
-
-pub overflow_sub-end : goal.overflow_sub-end
-overflow_sub-end c = omega (arith, c.requires.0)
-
-pub bounds-t-end : goal.bounds-t-end
-bounds-t-end c = omega (arith, c.requires.1)
-
-pub returns-then-t-end-ne13 : goal.returns-then-t-end-ne13
-returns-then-t-end-ne13 c = bare-whole _ _ _ c.requires.0 c.requires.1 c.if-end-at.false c.if-t-end-ne13.true
-
-pub overflow_sub-result : goal.overflow_sub-result
-overflow_sub-result c = omega (arith, c.requires.0)
+pub returns-then-t-end-eq13 : goal.returns-then-t-end-eq13
+returns-then-t-end-eq13 c = bare-cut _ _ _ c.requires.0 c.requires.1 c.if-end-at.true c.if-t-end-eq13.true
 
 pub returns : goal.returns
-returns c = bare-cut _ _ _ c.requires.0 c.requires.1 c.if-end-at.false c.if-t-end-ne13.false
+returns c =
+    elim c.else-end-at.branch [
+      | else-end-at-via-then-end-at+else-t-end-eq13 w ↦ bare-whole _ _ _ c.requires.0 c.requires.1 w.if-end-at.true w.if-t-end-eq13.false
+      | else-end-at-via-else-end-at w ↦ bare-none _ _ _ c.requires.0 c.requires.1 w.if-end-at.false
+    ]
