@@ -11,7 +11,8 @@ use Rattle.octets.proofs.Bools.{or-true}
 use Rattle.octets.proofs.Outcomes.{then-gives, need-gives}
 use Rattle.octets.proofs.Refusals.{number-of, refuses-within, refuses-then, refuses-need, not_refused}
 use Rattle.response.specs.Head.{Head, head_of}
-use Rattle.response.specs.Table.{Answer, has_location}
+use Rattle.response.specs.Table.{has_location}
+use Rattle.response.specs.declared.table.Answer.{Answer}
 use Rattle.response.specs.Response.{judged_head, response_of}
 use Rattle.response.specs.Claims.{Settled, settled}
 use Rattle.response.specs.declared.table.Action.{Action}

@@ -4,7 +4,7 @@ use Rattle.std.specs.Prelude.{ℕ, ◌≡◌, Bool, true, false, ◌↔◌, ◌�
 use Rattle.octets.specs.Outcome.{Outcome, refused, gives}
 use Rattle.octets.specs.Kinds.{one_of}
 use Rattle.response.specs.Head.{Head, head_of}
-use Rattle.response.specs.Table.{Answer}
+use Rattle.response.specs.declared.table.Answer.{Answer}
 use Rattle.response.specs.Response.{response_of}
 use Rattle.response.specs.Claims.{settled, settling}
 use Rattle.editions.specs.Edition.{may_redirect, located, response_by}

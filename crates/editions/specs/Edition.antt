@@ -1,14 +1,23 @@
 -- A script's response under two editions of the Location rule.
 -- Assumes nothing.
-use Rattle.std.specs.Prelude.{ℕ, Bool, true, not, ◌||◌, List}
+use Rattle.std.specs.Prelude.{ℕ, ◌≡◌, Bool, true, cond, not, ◌||◌, List, eqb, Option, None, Some, Result}
+use Rattle.std.specs.Result.{result_ok}
 use Rattle.octets.specs.Text.{bytes}
 use Rattle.octets.specs.Outcome.{Outcome, then, need}
 use Rattle.octets.specs.Compare.{same_bytes}
 use Rattle.response.specs.Head.{Head, head_of}
-use Rattle.response.specs.Table.{Answer}
+use Rattle.response.specs.declared.table.Answer.{Answer}
 use Rattle.response.specs.Response.{named, first_value, is_there, judged_head}
 use Rattle.editions.specs.declared.edition.Edition.{Edition}
 use Rattle.editions.specs.declared.edition.Edition.TheVariants.{Rfc, Draft}
+use Rattle.editions.specs.declared.edition.UnknownEdition.{UnknownEdition}
+
+-- the edition that a number of C programs names
+abbrev pub named_edition : ℕ → Option Edition
+named_edition n = cond (eqb n 0) (Some Rfc) (cond (eqb n 1) (Some Draft) None)
+
+abbrev pub Names : ℕ → Result Edition UnknownEdition → Type 0
+Names n r = result_ok r ≡ named_edition n
 
 -- "GET or HEAD", "compared byte by byte"
 abbrev pub may_redirect : List ℕ → Bool
