@@ -6,117 +6,20 @@
 
 mod print; // lengths, endings and complaints
 
-ghost use Rattle.std.specs.Prelude.{◌≡◌, ◌≤◌, ◌<◌, length};
-ghost use Rattle.scgi.specs.Window.{largest};
+ghost use Rattle.std.specs.Prelude.{◌≡◌, ◌+◌, ◌≤◌, ◌<◌, length, IfOk};
 
 use octets::copy::move_front;
+use print::Fault;
 use scgi::window::{Next, advance};
 use std::env::{Env, FillError};
 use std::io::Read;
 
-// How the reading stands.
-#[derive(Clone, Copy)]
-pub enum Input {
-    // Bytes may still come.
-    Going,
-    // The input has ended.
-    Ended,
-    // The ending is printed, or a read or a write failed.
-    Done,
-}
-
-#[derive(Clone, Copy)]
-pub struct State {
-    // How many bytes at the front of the window hold input.
-    pub held: usize,
-    pub input: Input,
-}
-
 // One read into the window, behind the held bytes: there is room, so that no byte means no more input.
-fn read_more(rt: &impl Eprint, input: &mut impl Read, window: &mut [u8], held: usize) -> State
+fn read_more(input: &mut impl Read, window: &mut [u8], held: usize) -> Result<usize, Fault>
     requires { held < length window.old }
-    ensures { result.held ≤ length window.old }
+    ensures { IfOk result (λ n. held + n ≤ length window.old) }
 {
-    match input.read(&mut window[held..]) {
-        Ok(0) => State {
-            held,
-            input: Input::Ended,
-        },
-        Ok(n) => State {
-            held: held + n,
-            input: Input::Going,
-        },
-        Err(e) => {
-            print::complain(rt, "standard input can't be read", e);
-            State {
-                held,
-                input: Input::Done,
-            }
-        }
-    }
-}
-
-// One turn: what the held bytes give is printed, the rest moves to the front, and more is read where that is asked for.
-fn turn(
-    rt: &(impl Print + Eprint),
-    input: &mut impl Read,
-    window: &mut [u8],
-    held: usize,
-    ended: bool,
-) -> State
-    requires { (held ≤ length window.old) × (largest ≤ length window.old) }
-    ensures { result.held ≤ length window.old }
-{
-    let mut lengths = [0u64; 1024];
-    let t = advance(&window[..held], ended, &mut lengths);
-    let count = t.count;
-    let taken = t.taken;
-    if !print::lengths(rt, &lengths, count) {
-        return done();
-    }
-    move_front(window, taken, held);
-    let left = held - taken;
-    let next = t.next;
-    match next {
-        Next::More => read_more(rt, input, window, left),
-        Next::Again => going(left, ended),
-        Next::Whole => {
-            print::line(rt, b"whole\n");
-            done()
-        }
-        Next::Cut => {
-            print::line(rt, b"cut\n");
-            done()
-        }
-        Next::Refused(n) => {
-            print::refused(rt, n);
-            done()
-        }
-    }
-}
-
-fn done() -> State
-    ensures { result.held ≤ 0 }
-{
-    State {
-        held: 0,
-        input: Input::Done,
-    }
-}
-
-fn going(held: usize, ended: bool) -> State
-    ensures { result.held ≤ held }
-{
-    if ended {
-        return State {
-            held,
-            input: Input::Ended,
-        };
-    }
-    State {
-        held,
-        input: Input::Going,
-    }
+    input.read(&mut window[held..]).map_err(Fault::Input)
 }
 
 // Room for a largest request, of 1,064,967 bytes: a turn that asks for more leaves fewer bytes than that.
@@ -126,22 +29,33 @@ fn empty_window() -> [u8; 1114112]
     [0; 1114112]
 }
 
+// Turn by turn: what the held bytes give is printed, the rest moves to the front, and more is read where that is asked for.
 // A proved loop has to end, and nothing says that the input does: the turns are counted up to a number that no run reaches.
-fn read_spool(rt: &(impl Print + Eprint), input: &mut impl Read) {
+fn read_spool(rt: &impl Print, input: &mut impl Read) -> Result<(), Fault> {
     let mut window = empty_window();
     let mut held: usize = 0;
     let mut ended = false;
     for _ in 0..u64::MAX {
-        let s = turn(rt, input, &mut window, held, ended);
-        match s.input {
-            Input::Done => return,
-            Input::Ended => {
-                ended = true;
+        let mut lengths = [0u64; 1024];
+        let t = advance(&window[..held], ended, &mut lengths);
+        print::lengths(rt, &lengths[..t.count]).map_err(Fault::Output)?;
+        move_front(&mut window, t.taken, held);
+        held -= t.taken;
+        let ending = match t.next {
+            Next::More => {
+                let count = read_more(input, &mut window, held)?;
+                held += count;
+                ended = count == 0;
+                continue;
             }
-            Input::Going => {}
-        }
-        held = s.held;
+            Next::Again => continue,
+            Next::Whole => rt.println("whole"),
+            Next::Cut => rt.println("cut"),
+            Next::Refused(why) => println!(rt; "refused {}", why.number()),
+        };
+        return ending.map_err(Fault::Output);
     }
+    Ok(())
 }
 
 // Whether there is an argument behind the program's own name.
@@ -155,5 +69,7 @@ fn main(rt: HostRuntime) {
         print::usage(&rt);
         return;
     }
-    read_spool(&rt, &mut rt.stdin());
+    if let Err(fault) = read_spool(&rt, &mut rt.stdin()) {
+        print::complain(&rt, fault);
+    }
 }

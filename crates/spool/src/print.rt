@@ -1,30 +1,28 @@
-// Lengths, endings and complaints. What is printed says whether it was written, and where it was not, the complaint is made here.
+// What is printed: lengths and endings on standard output, complaints on standard error.
 ghost use Rattle.std.specs.Prelude.{◌+◌, ◌≤◌, length};
 
-use octets::copy::put;
 use octets::decimal;
-use std::io;
+use std::{fmt, io};
 
-// What failed and why, on standard error. There is nowhere to say that this could not be written.
-pub fn complain(rt: &impl Eprint, what: &str, why: io::Error) {
-    let _ = eprintln!(rt; "spool: {what}: {why}");
+// Why the program ends without an ending line: a read or a write failed.
+#[derive(Debug, Drop)]
+pub enum Fault {
+    Input(io::Error),
+    Output(io::Error),
 }
 
-pub fn line(rt: &(impl Print + Eprint), text: &[u8]) -> bool {
-    match rt.write_all(text) {
-        Ok(()) => true,
-        Err(e) => {
-            complain(rt, "standard output can't be written", e);
-            false
+impl fmt::Display for Fault {
+    fn fmt<W: fmt::Write>(&self, f: &mut fmt::Formatter<W>) -> fmt::Result {
+        match self {
+            Fault::Input(why) => write!(f, "standard input can't be read: {why}"),
+            Fault::Output(why) => write!(f, "standard output can't be written: {why}"),
         }
     }
 }
 
-pub fn refused(rt: &(impl Print + Eprint), n: u8) -> bool {
-    let mut text = [0u8; 29];
-    let number = put(&mut text, 0, b"refused ");
-    let end = put_line(&mut text, number, n as u64);
-    line(rt, &text[..end])
+// There is nowhere to say that a complaint could not be written.
+pub fn complain(rt: &impl Eprint, fault: Fault) {
+    let _ = eprintln!(rt; "spool: {fault}");
 }
 
 pub fn usage(rt: &impl Eprint) {
@@ -33,16 +31,17 @@ pub fn usage(rt: &impl Eprint) {
     );
 }
 
-// The first count lengths, a line each, by one write: 1,024 lines of at most 21 bytes.
-pub fn lengths(rt: &(impl Print + Eprint), numbers: &[u64], count: usize) -> bool
-    requires { (count ≤ length numbers.now) × (count ≤ 1024) }
+// The lengths, a line each, by one write: 1,024 lines of at most 21 bytes. `print!` would write them in pieces that end within a line, and
+// `writeln!` into the text may give an error, where these lines are proved to fit.
+pub fn lengths(rt: &impl Print, numbers: &[u64]) -> io::Result<()>
+    requires { length numbers.now ≤ 1024 }
 {
     let mut text = [0u8; 21504];
     let mut at: usize = 0;
-    for n in &numbers[..count] {
-        at = put_line(&mut text, at, *n);
+    for &n in numbers {
+        at = put_line(&mut text, at, n);
     }
-    line(rt, &text[..at])
+    rt.write_all(&text[..at])
 }
 
 // One number and a line end from a place on.
