@@ -13,7 +13,7 @@ fn ends_head(s: &[u8], i: usize) -> bool
 }
 
 // Goes on from a place by four bytes as long as the fourth of them is above CR, and so neither CR nor LF: no CR LF CR LF begins among the
-// four. Sixteen bytes are passed in a turn, and fewer than sixteen left at the end are not looked at.
+// four. Sixteen bytes are passed in a turn, for speed, and fewer than sixteen left at the end are not looked at.
 fn skip(s: &[u8], from: usize) -> usize
     requires { from ≤ length s.now }
     ensures { Passed s.now from result }
@@ -46,12 +46,13 @@ fn turns(s: &[u8], i: usize) -> bool
 {
     let mut hit = false;
     for k in 0..16 {
-        hit = hit | ((s[i + k + 1] == b'\n') & (s[i + k + 2] == b'\r'));
+        hit |= (s[i + k + 1] == b'\n') & (s[i + k + 2] == b'\r');
     }
     hit
 }
 
 // Goes on from the start by thirty-two bytes as long as no CR LF CR LF begins among them; fewer than thirty-four left are not looked at.
+// Both halves are looked at before the test, so that a turn has one way out, for speed.
 fn leap(s: &[u8]) -> usize
     ensures { Passed s.now 0 result }
 {

@@ -75,10 +75,7 @@ pub fn request_line(line: &[u8]) -> Result<RequestLine, Refusal>
     if line.len() <= t {
         return Err(Refusal::RequestLine);
     }
-    if find(line, t + 1, b' ') < line.len() {
-        return Err(Refusal::RequestLine);
-    }
-    if !is_method(&line[..m]) {
+    if find(line, t + 1, b' ') < line.len() || !is_method(&line[..m]) {
         return Err(Refusal::RequestLine);
     }
     let minor = minor_version(&line[t + 1..])?;

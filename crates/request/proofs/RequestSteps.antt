@@ -232,8 +232,8 @@ chain head (gives first) F G R = by (F first) G
         (target : Target) (fields : List Field) (o : Outcome ℕ)
         → then (then o (λ n. gives (record { first = first; path = target.path; fields = fields; body_length = n }))) (λ q. gives (placed_in head q))
         ≡ then (then o (λ n. gives (record { fields = fields; body_length = n }))) (λ g. gives (placed_by head (record { first = first; path = target.path }) g))
-    rules target fields (refused n) = refl
-    rules target fields (gives n) = refl
+    rules target fs (refused n) = refl
+    rules target fs (gives n) = refl
 
     by :
         (o : Outcome Target) (G : Outcome (List Field))

@@ -79,22 +79,11 @@ pub returns-then-n-eq64 : goal.returns-then-n-eq64
 returns-then-n-eq64 c =
     too_many c.loop-end.invariant.2 _ _ (next-line c.args.head.now c.loop-end.end _ refl (c.loop-end.invariant.1 c.loop-end-test.true)) (omega (arith, c.if-n-eq64.true))
 
-pub overflow_add-end : goal.overflow_add-end
-overflow_add-end c = omega (arith, begins c)
-
-pub field_at-requires : goal.field_at-requires
-field_at-requires c = begins c
-
 pub returns-in_default : goal.returns-in_default
 returns-in_default c =
     let h = c.args.head.now in
     let e = c.in_default.ensures in
     bad-line c.loop-end.invariant.2 _ _ (next-line h c.loop-end.end _ refl (c.loop-end.invariant.1 c.loop-end-test.true)) (λ (e : c.loop-end.n ≡ 64). c.if-n-eq64.false (omega (arith, e))) (malformed h (c.loop-end.end + 2) e)
-
-pub loop-end-smaller : goal.loop-end-smaller
-loop-end-smaller c =
-    let h = c.args.head.now in
-    omega (arith, ends (goal.at.loop-end-smaller c).In-Some, line-within h (c.loop-end.end + 2) (begins (goal.at.loop-end-smaller c).Else-n-eq64))
 
 pub loop-end-preserved : goal.loop-end-preserved
 loop-end-preserved c =

@@ -1,16 +1,7 @@
 use mathlib.Core.Path.{refl, sym, ◌∙◌}
-use Rattle.http_head.proofs.Heads.{end_none, end-here, one_on, four-on, pass-then}
+use Rattle.http_head.proofs.Heads.{end_none, end-here, one_on, four-on}
 use native.Mathlib.Omega.{arith}
 use Rattle.http_head.proofs.head.first_end.Goals as goal
-
-pub skip-i-requires : goal.skip-i-requires
-skip-i-requires c = c.leap.ensures.inside
-
-pub loop-i-init : goal.loop-i-init
-loop-i-init c = pass-then _ _ _ _ c.leap.ensures c.skip-i.ensures
-
-pub loop-i-smaller-then-s-i-gt13 : goal.loop-i-smaller-then-s-i-gt13
-loop-i-smaller-then-s-i-gt13 c = omega arith
 
 pub loop-i-preserved-then-s-i-gt13 : goal.loop-i-preserved-then-s-i-gt13
 loop-i-preserved-then-s-i-gt13 c = four-on _ _ _ _ refl refl (omega arith) c.if-s-i-gt13.true 0 c.loop-i.invariant
@@ -18,9 +9,6 @@ loop-i-preserved-then-s-i-gt13 c = four-on _ _ _ _ refl refl (omega arith) c.if-
 pub returns-then-ends_head : goal.returns-then-ends_head
 returns-then-ends_head c =
     sym (c.loop-i.invariant.same ∙ end-here _ _ (omega arith) (sym c.ends_head.ensures ∙ c.if-ends_head.true))
-
-pub loop-i-smaller : goal.loop-i-smaller
-loop-i-smaller c = omega arith
 
 pub loop-i-preserved : goal.loop-i-preserved
 loop-i-preserved c =

@@ -15,9 +15,6 @@ pub returns-then-ends_line : goal.returns-then-ends_line
 returns-then-ends_line c =
     omega (arith, line-stop c.args.s.now c.loop-i.i c.loop-i-test.true (sym c.ends_line.ensures ∙ c.if-ends_line.true))
 
-pub loop-i-smaller : goal.loop-i-smaller
-loop-i-smaller c = omega arith
-
 pub loop-i-preserved : goal.loop-i-preserved
 loop-i-preserved c =
     let s = c.args.s.now in

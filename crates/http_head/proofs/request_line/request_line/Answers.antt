@@ -1,12 +1,11 @@
 use mathlib.Core.Path.{sym, ap, ◌∙◌}
 use Prim.Native.Nat.{◌+◌}
-use lib.Seq.{length-take-le}
 use Rattle.octets.proofs.Lists.{from}
 use Rattle.http_head.specs.RequestLine.{version_of}
 use Rattle.http_head.proofs.Requests.{one-part, two-parts, four-parts, no-method, bad-version, whole}
 use borrow.Author.Rules.{rules}
-use native.Mathlib.Omega.{arith}
 use Rattle.http_head.proofs.request_line.request_line.Goals as goal
+use Rattle.http_head.proofs.request_line.request_line.Goals.{then-find-line-via-then-find-line, then-find-line-via-else-find-line+then-not-is_method}
 
 pub returns-then-line-m : goal.returns-then-line-m
 returns-then-line-m c = sym (one-part _ _ c.find-m.ensures c.if-line-m.true)
@@ -16,14 +15,13 @@ returns-then-line-t c = sym (two-parts _ _ c.find-m.ensures c.if-line-m.false _ 
 
 pub returns-then-find-line : goal.returns-then-find-line
 returns-then-find-line c =
-    sym (four-parts _ _ c.find-m.ensures c.if-line-m.false _ c.find-t.ensures c.if-line-t.false _ c.find.ensures c.if-find-line.true)
-
-pub slice_bounds-is_method-end : goal.slice_bounds-is_method-end
-slice_bounds-is_method-end c = sym (length-take-le c.find-m.result c.args.line.now (omega arith))
-
-pub returns-then-not-is_method : goal.returns-then-not-is_method
-returns-then-not-is_method c =
-    sym (no-method _ _ c.find-m.ensures c.if-line-m.false _ c.find-t.ensures c.if-line-t.false _ c.find.ensures c.if-find-line.false (sym c.is_method.ensures ∙ c.if-not-is_method.true))
+    sym
+    (elim c.then-find-line.branch [
+      | then-find-line-via-then-find-line w ↦
+          four-parts _ _ c.find-m.ensures c.if-line-m.false _ c.find-t.ensures c.if-line-t.false _ c.find.ensures w.if-find-line.true
+      | then-find-line-via-else-find-line+then-not-is_method w ↦
+          no-method _ _ c.find-m.ensures c.if-line-m.false _ c.find-t.ensures c.if-line-t.false _ c.find.ensures w.if-find-line.false (sym w.is_method.ensures ∙ w.if-not-is_method.true)
+    ])
 
 pub returns-in_err-minor : goal.returns-in_err-minor
 returns-in_err-minor c =

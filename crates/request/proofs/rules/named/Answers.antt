@@ -1,7 +1,6 @@
-use mathlib.Core.Path.{◌≡◌, refl, sym, ap, ◌∙◌}
+use mathlib.Core.Path.{◌≡◌, sym, ap, ◌∙◌}
 use Prim.Native.Nat.{◌+◌}
 use native.Mathlib.Omega.{arith}
-use borrow.Author.Rules.{rules}
 use lib.ListN.{drop, get_or}
 use Rattle.octets.specs.Compare.{same_letters}
 use Rattle.http_head.specs.Fields.{field_in, nowhere}
@@ -30,12 +29,6 @@ seen c =
           (sym (w.found-is ∙ ap (λ o. record { count = c.loop-field.found.count + 1; first = o }) w.or.ensures))
       | else-same_letters w ↦ rw (told c ∙ w.if-same_letters.false) (sym w.found-is)
     ]
-
-pub loop-field-init : goal.loop-field-init
-loop-field-init c = (search rules, refl)
-
-pub overflow_add-found : goal.overflow_add-found
-overflow_add-found c = omega (arith, c.loop-field.invariant.0, c.ranges.fields)
 
 pub loop-field-preserved : goal.loop-field-preserved
 loop-field-preserved c =
