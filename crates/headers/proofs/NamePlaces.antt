@@ -1,6 +1,6 @@
 -- Laws of names found by the places that were stored.
 -- Assumes nothing.
-use Prim.Native.Nat.{ℕ, suc, ◌+◌, ◌-◌, ◌≤◌, ◌<◌}
+use Prim.Native.Nat.{ℕ, zero, suc, ◌+◌, ◌-◌, ◌≤◌, ◌<◌}
 use Prim.{absurd}
 use mathlib.Core.Path.{◌≡◌, refl, sym, ap, ◌∙◌}
 use mathlib.Core.Bool.{Bool, true, false, cond, not, ◌&&◌, ◌||◌}
@@ -17,6 +17,8 @@ use Rattle.octets.specs.Compare.{same_bytes}
 use Rattle.octets.specs.Lists.{no_more, ◌&◌, is_in, different}
 use Rattle.octets.specs.declared.span.Span.{Span}
 use Rattle.octets.proofs.Alls.{all_after}
+use Rattle.octets.proofs.Compares.{same-turned}
+use Rattle.std.specs.List.{list_any}
 use Rattle.octets.proofs.Outcomes.{given-gives, then-gives, gives-once, then_same}
 use Rattle.headers.specs.Block.{Header, names, printed, headers_of, parsed, count_of, header_in, HeaderFound}
 use Rattle.headers.specs.Lookup.{part_in}
@@ -228,11 +230,20 @@ from ps i = take_all (length ps - i) (drop i ps) (simp length-drop (omega arith)
 pub from-inside : (b : List ℕ) (ps : List Span) (i : ℕ) → AllInside b ps → AllInside b (take (length ps - i) (drop i ps))
 from-inside b ps i h = rw (from ps i) (all_after i ps h)
 
-pub inside-at : (b : List ℕ) (ps : List Span) (k : ℕ) → AllInside b ps → k < length ps → Inside b (get_or ps k nowhere)
-inside-at b ps k i h = first _ _ (rw (next ps k h) at (all_after k ps i))
-  where
-    first : (p : Span) (qs : List Span) → AllInside b (p ∷ qs) → Inside b p
-    first p qs (i & is) = i
+pub inside-at : (b : List ℕ) (ps : List Span) (k : ℕ) (d : Span) → AllInside b ps → k < length ps → Inside b (get_or ps k d)
+inside-at b [] k d i h = absurd (omega arith)
+inside-at b (p ∷ ps) zero d (i & is) h = i
+inside-at b (p ∷ ps) (suc k) d (i & is) h = inside-at b ps k d is (omega arith)
+
+-- a place that is the list's entry k
+pub inside-item : (b : List ℕ) (ps : List Span) (k : ℕ) (p : Span) → AllInside b ps → k < length ps → p ≡ get_or ps k p → Inside b p
+inside-item b ps k p i h e = rw e (inside-at b ps k p i h)
+
+-- whether a name stands at one of the places
+pub any-in : (x b : List ℕ) (ps : List Span) → list_any (λ p. same_bytes (part_in b p) x) ps ≡ is_in x (parts b ps)
+unfolding is_in
+any-in x b [] = refl
+any-in x b (p ∷ ps) = rw (same-turned (part_in b p) x, any-in x b ps)
 
 pub in-next :
     (x b : List ℕ) (ps : List Span) (k : ℕ) → k < length ps

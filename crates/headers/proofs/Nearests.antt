@@ -102,7 +102,7 @@ module _ (x b : List ℕ) (ps : List Span) (i : AllInside b ps) where
           by : (t : Bool) → ltb k (length ps) ≡ t → is_in x (parts b (drop k ps)) ≡ is_in x (parts b (drop (k + 1) ps))
           by true e =
               let a : k < length ps = ltb-true k (length ps) e in
-              in-next x b ps k a ∙ rw (other-lengths x (part_in b (get_or ps k nowhere)) (λ l. h a (l ∙ name-length b (get_or ps k nowhere) (inside-at b ps k i a))))
+              in-next x b ps k a ∙ rw (other-lengths x (part_in b (get_or ps k nowhere)) (λ l. h a (l ∙ name-length b (get_or ps k nowhere) (inside-at b ps k nowhere i a))))
           by false e =
               let a : length ps ≤ k = ltb-false k (length ps) e in
               in_end x b ps k a ∙ sym (in_end x b ps (k + 1) (omega arith))
@@ -115,7 +115,7 @@ from-nearest b ps ns k l i h e g r =
     let p : Span = get_or ps k nowhere in
     let z : k + 1 + (get_or ns l 0 - (k + 1)) ≡ get_or ns l 0 = omega (arith, r.later l g) in
     passed (part_in b p) b ps i (get_or ns l 0 - (k + 1)) (k + 1)
-    (λ j a c u q. r.others l j g a (omega (arith, z)) (ap (λ m. m % 128) (sym q ∙ name-length b p (inside-at b ps k i h)) ∙ sym e))
+    (λ j a c u q. r.others l j g a (omega (arith, z)) (ap (λ m. m % 128) (sym q ∙ name-length b p (inside-at b ps k nowhere i h)) ∙ sym e))
     ∙ ap (λ m. is_in (part_in b p) (parts b (drop m ps))) z
 
 -- two equal names are two equal names among more

@@ -1,19 +1,23 @@
-use mathlib.Core.Path.{sym, ◌∙◌}
-use native.Mathlib.Omega.{arith}
-use Rattle.octets.proofs.Compares.{same-turned}
-use Rattle.headers.proofs.NamePlaces.{inside-at, in-next, in_end}
+use Rattle.std.proofs.Common.{rules, tests}
+use Rattle.std.proofs.lemmas.Iterator.{YieldsList-from_slice}
+use Rattle.std.proofs.lemmas.Iterator.Adapters.{serves_from_places}
+use Rattle.std.proofs.lemmas.Iterator.Search.{any_from_yields_List}
+use mathlib.Core.Path.{◌∙◌}
+use Rattle.octets.specs.Compare.{same_bytes}
+use Rattle.headers.specs.Lookup.{part_in}
+use Rattle.headers.proofs.NamePlaces.{inside-item, any-in}
 use Rattle.headers.proofs.names.stands.Goals as goal
 
-pub is_stored-requires : goal.is_stored-requires
-is_stored-requires c = inside-at _ _ _ c.requires c.loop-place-test.true
-
-pub returns-then-is_stored : goal.returns-then-is_stored
-returns-then-is_stored c =
-    sym (c.loop-place.invariant ∙ in-next _ _ _ _ c.loop-place-test.true ∙ rw (same-turned _ _ ∙ sym c.is_stored.ensures ∙ c.if-is_stored.true))
-
-pub loop-place-preserved : goal.loop-place-preserved
-loop-place-preserved c =
-    c.loop-place.invariant ∙ in-next _ _ _ _ c.loop-place-test.true ∙ rw (same-turned _ _ ∙ sym c.is_stored.ensures ∙ c.if-is_stored.false)
+pub any-requires-clause-callable : goal.any-requires-clause-callable
+any-requires-clause-callable c =
+    let ps = c.args.places.now in
+    serves_from_places (YieldsList-from_slice ps cc) (λ x q k. search (rules, tests))
+    (λ x k h e.
+    let i = inside-item c.args.block.now ps k x.now c.requires h e in
+    search (rules, i))
 
 pub returns : goal.returns
-returns c = sym (c.loop-place.invariant ∙ in_end c.args.name.now c.args.block.now c.args.places.now c.loop-place.place-index (omega arith))
+returns c =
+    let ps = c.args.places.now in
+    any_from_yields_List (λ p. same_bytes (part_in c.args.block.now p) c.args.name.now) _ _ _ c.any.ensures.ran (YieldsList-from_slice ps cc) (λ x b q k. search (rules, tests))
+    ∙ any-in c.args.name.now c.args.block.now ps

@@ -3,6 +3,3 @@ use Rattle.headers.proofs.names.Names.differ_by_length.Given as goal
 
 abbrev pub invariant-loop-k : goal.invariant-loop-k
 invariant-loop-k l = Passing l.self.block.now l.self.places.now l.nearest l.k
-
-abbrev pub decreases-loop-k : goal.decreases-loop-k
-decreases-loop-k l = l.k
