@@ -1,10 +1,12 @@
 -- Laws of the check of what is lent, step by step, and of its answers.
 -- Assumes nothing.
-use Prim.Native.Nat.{ℕ, ◌*◌, ◌≤◌}
+use Prim.{absurd}
+use Prim.Native.Nat.{ℕ, ◌≤◌}
 use mathlib.Core.Path.{◌≡◌, refl, sym, ap, ◌∙◌}
 use mathlib.Core.Bool.{Bool, true, false, false≢true, not, ◌&&◌}
 use mathlib.Core.List.{List, [], ◌∷◌}
-use Rattle.std.proofs.Common.{Option, None, Some}
+use Rattle.std.proofs.Common.{Option, None, Some, Result, Ok, Err}
+use Rattle.std.specs.Option.{ok_or}
 use native.Mathlib.Omega.{arith}
 use lib.Dec.{leb}
 use lib.ListN.{length}
@@ -18,22 +20,23 @@ use Rattle.octets.proofs.Refusals.{Refuses, with_number, not_refused, only-numbe
 use Rattle.headers.specs.Block.{Header, headers_of}
 use Rattle.headers.specs.Lookup.{value_in}
 use Rattle.headers.proofs.Claims.{headers-few, places-inside}
-use Rattle.mounts.specs.Blocks.{block_of, BlockGood, many_for, lacks_room, stored_of}
+use Rattle.mounts.specs.Blocks.{block_of, BlockGood, many_for, lacks_room, BlockFound}
 use Rattle.mounts.specs.Mounts.{Mount, mounts_of}
 use Rattle.mounts.proofs.Claims.{blocks-hold, blocks-told, mounts-number}
 use Rattle.lent.specs.Settings.{Settings, filled, or_in, sought, is_port, auth_of, settings_of}
 use Rattle.lent.specs.Lent.{Lent, lent_of}
-use Rattle.lent.specs.Places.{settings_at, FactInside, AuthInside, SettingsInside, fact_part, FactHeld, AuthHeld, SettingsHeld, SettingsFound}
+use Rattle.lent.specs.Places.{settings_at, FactInside, AuthInside, SettingsInside, FactHeld, AuthHeld, SettingsHeld, SettingsFound}
 use Rattle.lent.specs.Check.{LentFound, lacks_either, LentTried}
 use Rattle.lent.specs.Claims.{LentNumber, Accepted, LentTold}
-use Rattle.lent.specs.declared.check.Checked.{Checked}
-use Rattle.lent.specs.declared.check.Tried.TheVariants.{Done, Full}
-use Rattle.lent.specs.declared.check.Checked.TheVariants.{Lent as CheckedLent, Refused}
-use Rattle.lent.specs.declared.places.FactPlace.{FactPlace}
-use Rattle.lent.specs.declared.places.AuthPlaces.{AuthPlaces}
-use Rattle.lent.specs.declared.places.AuthPlaces.TheVariants.{Given, Absent}
+use Rattle.octets.specs.declared.span.Span.{Span}
+use Rattle.octets.specs.declared.refusal.Refusal.{Refusal}
+use Rattle.octets.specs.declared.refusal.Refusal.TheVariants.{Lent as LentRefused}
+use Rattle.octets.specs.Refusal.{number_of}
+use Rattle.headers.specs.declared.names.Names.{Names}
+use Rattle.mounts.specs.declared.blocks.Unfit.{Unfit}
+use Rattle.mounts.specs.declared.blocks.Unfit.TheVariants.{Full, Breach}
+use Rattle.lent.specs.declared.places.Auth.{Auth}
 use Rattle.lent.specs.declared.places.SettingPlaces.{SettingPlaces}
-use Rattle.lent.specs.declared.settings.Settings.TheVariants.{At as SettingsAt, Breach as SettingsBreach}
 use Rattle.lent.proofs.Links.{lent-mounts}
 use Rattle.lent.proofs.SettingSteps.{value_inside}
 
@@ -49,17 +52,17 @@ bad-mounts mounts e = by (mounts_of mounts) refl e
 -- The check, step by step.
 
 module _ (facts site mounts : List ℕ) where
-  pub wrong-facts : block_of 1024 facts ≡ refused 20 → LentFound facts site mounts (Refused 20)
+  pub wrong-facts : block_of 1024 facts ≡ refused 20 → LentFound facts site mounts (Err LentRefused)
   unfolding lent_of
   wrong-facts e = record { answer = sym (rw e); places = tt }
 
   module _ (f : BlockGood 1024 facts) where
-    pub wrong-site : block_of 1024 site ≡ refused 20 → LentFound facts site mounts (Refused 20)
+    pub wrong-site : block_of 1024 site ≡ refused 20 → LentFound facts site mounts (Err LentRefused)
     unfolding lent_of
     wrong-site e = record { answer = sym (rw (f.accepted, e)); places = tt }
 
     module _ (s : BlockGood 1024 site) where
-      pub wrong-mounts : is_good (mounts_of mounts) ≡ false → LentFound facts site mounts (Refused 20)
+      pub wrong-mounts : is_good (mounts_of mounts) ≡ false → LentFound facts site mounts (Err LentRefused)
       unfolding lent_of
       wrong-mounts e = record { answer = sym (rw (f.accepted, s.accepted, bad-mounts mounts e)); places = tt }
 
@@ -72,62 +75,85 @@ module _ (facts site mounts : List ℕ) where
         unfolding lent_of
         left = rw (f.accepted, s.accepted, m.is)
 
-        pub wrong-settings : SettingsFound facts site SettingsBreach → LentFound facts site mounts (Refused 20)
+        pub wrong-settings : SettingsFound facts site None → LentFound facts site mounts (Err LentRefused)
         wrong-settings x =
             let e : refused 20 ≡ settings_of f.hs s.hs = rw (f.headers, s.headers) at x.answer in
             record { answer = sym (rw (left, ← e)); places = tt }
 
-        pub all-lent : (p : SettingPlaces) → SettingsFound facts site (SettingsAt p) → LentFound facts site mounts (CheckedLent p)
+        pub all-lent : (p : SettingPlaces) → SettingsFound facts site (Some p) → LentFound facts site mounts (Ok p)
         all-lent p x =
             let e : gives (settings_at facts site p) ≡ settings_of f.hs s.hs = rw (f.headers, s.headers) at x.answer in
             record { answer = sym (rw (left, ← e)); places = x.places }
 
 -- With lists for the places of names.
 
-module _ (n m : ℕ) (facts site mounts : List ℕ) where
-  pub facts-full : None ≡ stored_of 1024 n facts → LentTried n m facts site mounts Full
-  facts-full e = record { answer = rw (blocks-told.full 1024 n facts e) }
-
-  pub facts-wrong : Some (refused 20) ≡ stored_of 1024 n facts → LentTried n m facts site mounts (Done (Refused 20))
-  facts-wrong e =
-      let b = blocks-told.breach 1024 n facts e in
+module _ (room : ℕ) (facts site mounts : List ℕ) where
+  pub facts-unfit : (u : Unfit) → BlockFound 1024 room facts (Err u) → LentTried room facts site mounts (Err u)
+  facts-unfit Full f = record { answer = rw (blocks-told.full 1024 room facts f.answer) }
+  facts-unfit Breach f =
+      let b = blocks-told.breach 1024 room facts f.answer in
       record { answer = (rw (b.0, b.1), wrong-facts facts site mounts b.1) }
 
-  module _ (k : ℕ) (e : Some (gives k) ≡ stored_of 1024 n facts) where
-    f : (lacks_room 1024 n facts ≡ false) × BlockGood 1024 facts
-    f = blocks-told.good 1024 n facts k e
+  module _ (fn : Names) (ff : BlockFound 1024 room facts (Ok fn)) where
+    f : (lacks_room 1024 room facts ≡ false) × BlockGood 1024 facts
+    f = blocks-told.good 1024 room facts _ ff.answer
 
-    by-site : lacks_either n m facts site ≡ lacks_room 1024 m site
+    by-site : lacks_either room facts site ≡ lacks_room 1024 room site
     by-site = rw (f.0, f.1.accepted)
 
-    pub site-full : None ≡ stored_of 1024 m site → LentTried n m facts site mounts Full
-    site-full d = record { answer = by-site ∙ blocks-told.full 1024 m site d }
-
-    pub site-wrong : Some (refused 20) ≡ stored_of 1024 m site → LentTried n m facts site mounts (Done (Refused 20))
-    site-wrong d =
-        let b = blocks-told.breach 1024 m site d in
+    pub site-unfit : (u : Unfit) → BlockFound 1024 room site (Err u) → LentTried room facts site mounts (Err u)
+    site-unfit Full d = record { answer = by-site ∙ blocks-told.full 1024 room site d.answer }
+    site-unfit Breach d =
+        let b = blocks-told.breach 1024 room site d.answer in
         record { answer = (by-site ∙ b.0, wrong-site facts site mounts f.1 b.1) }
 
-    pub all-tried : (j : ℕ) → Some (gives j) ≡ stored_of 1024 m site → (r : Checked) → LentFound facts site mounts r → LentTried n m facts site mounts (Done r)
-    all-tried j d r l = record { answer = (by-site ∙ (blocks-told.good 1024 m site j d).0, l) }
+    module _ (sn : Names) (fs : BlockFound 1024 room site (Ok sn)) where
+      s : (lacks_room 1024 room site ≡ false) × BlockGood 1024 site
+      s = blocks-told.good 1024 room site _ fs.answer
 
--- room for two numbers for each header of a block of 1,024 bytes is room enough
-never-full : (b : List ℕ) (room : ℕ) → 682 ≤ room → lacks_room 1024 room b ≡ false
+      pub mounts-unfit : is_good (mounts_of mounts) ≡ false → LentTried room facts site mounts (Err Breach)
+      mounts-unfit g = record { answer = (by-site ∙ s.0, wrong-mounts facts site mounts f.1 s.1 g) }
+
+      -- by what is found in the two blocks
+      pub settled :
+          is_good (mounts_of mounts) ≡ true → (o : Option SettingPlaces) → SettingsFound facts site o
+          → (r : Result SettingPlaces Unfit) → r ≡ ok_or o Breach → LentTried room facts site mounts r
+      settled g o x r e = rw e (by o x)
+        where
+          by : (p : Option SettingPlaces) → SettingsFound facts site p → LentTried room facts site mounts (ok_or p Breach)
+          by None h = record { answer = (by-site ∙ s.0, wrong-settings facts site mounts f.1 s.1 g h) }
+          by (Some p) h = record { answer = (by-site ∙ s.0, all-lent facts site mounts f.1 s.1 g p h) }
+
+-- room for a place for each header of a block of 1,024 bytes is room enough
+never-full : (b : List ℕ) (room : ℕ) → 341 ≤ room → lacks_room 1024 room b ≡ false
 never-full b room h = tested (leb (length b) 1024) refl
   where
     many : (o : Option (List Header)) → headers_of b ≡ o → length b ≤ 1024 → many_for room o ≡ false
     many None z l = refl
-    many (Some hs) z l = le-ltb room (2 * length hs) (omega (arith, headers-few b hs (ap (λ (o : Option (List Header)). given o 5) z)))
+    many (Some hs) z l = le-ltb room (length hs) (omega (arith, headers-few b hs (ap (λ (o : Option (List Header)). given o 5) z)))
 
     tested : (t : Bool) → leb (length b) 1024 ≡ t → t && many_for room (headers_of b) ≡ false
     tested true q = many (headers_of b) refl (leb-true (length b) 1024 q)
     tested false q = refl
 
 -- lists with room for 341 headers are never full
-pub always-room : (n m : ℕ) (facts site mounts : List ℕ) → LentTried n m facts site mounts Full → 682 ≤ n → 682 ≤ m → ⊥
-always-room n m facts site mounts f h g =
-    let e : lacks_either n m facts site ≡ false = rw (never-full facts n h, never-full site m g) (and-false (is_good (block_of 1024 facts))) in
+pub always-room : (room : ℕ) (facts site mounts : List ℕ) → LentTried room facts site mounts (Err Full) → 341 ≤ room → ⊥
+always-room room facts site mounts f h =
+    let e : lacks_either room facts site ≡ false = rw (never-full facts room h, never-full site room h) (and-false (is_good (block_of 1024 facts))) in
     false≢true (sym e ∙ f.answer)
+
+-- what an answer says where no list was full
+
+abbrev pub refusal : Result SettingPlaces Unfit → Result SettingPlaces Refusal
+refusal (Ok p) = Ok p
+refusal (Err u) = Err LentRefused
+
+pub done :
+    (room : ℕ) (facts site mounts : List ℕ) (r : Result SettingPlaces Unfit) → LentTried room facts site mounts r → (r ≡ Err Full → ⊥)
+    → (q : Result SettingPlaces Refusal) → q ≡ refusal r → LentFound facts site mounts q
+done room facts site mounts (Ok p) f n q e = rw e f.answer.1
+done room facts site mounts (Err Breach) f n q e = rw e f.answer.1
+done room facts site mounts (Err Full) f n q e = absurd (n refl)
 
 -- Which number the answers have.
 
@@ -164,12 +190,12 @@ lent-number facts site mounts n e =
 -- The places lie in their blocks.
 
 module _ (facts site : List ℕ) where
-  fact-inside : (name : List ℕ) (p : FactPlace) → FactHeld facts name p → FactInside facts p
-  fact-inside name p e = places-inside.of_one facts name (fact_part p) e
+  fact-inside : (name : List ℕ) (p : Span) → FactHeld facts name p → FactInside facts p
+  fact-inside name p e = places-inside.of_one facts name p e
 
-  auth-inside : (p : AuthPlaces) → AuthHeld facts p → AuthInside facts p
-  auth-inside (Given t u) h = (fact-inside (bytes "AUTH_TYPE") t h.auth_type, fact-inside (bytes "REMOTE_USER") u h.remote_user)
-  auth-inside Absent h = tt
+  auth-inside : (p : Option Auth) → AuthHeld facts p → AuthInside facts p
+  auth-inside (Some a) h = (fact-inside (bytes "AUTH_TYPE") a.auth_type h.auth_type, fact-inside (bytes "REMOTE_USER") a.remote_user h.remote_user)
+  auth-inside None h = tt
 
   settings-inside : (p : SettingPlaces) → SettingsHeld facts site p → SettingsInside facts site p
   settings-inside p h =
@@ -181,7 +207,7 @@ module _ (facts site : List ℕ) where
         software = value_inside facts site (bytes "SERVER_SOFTWARE") p.software h.software;
       }
 
-accepts : (facts site mounts : List ℕ) (p : SettingPlaces) → LentFound facts site mounts (CheckedLent p) → Accepted facts site mounts p
+accepts : (facts site mounts : List ℕ) (p : SettingPlaces) → LentFound facts site mounts (Ok p) → Accepted facts site mounts p
 accepts facts site mounts p f =
     let g = then-gives (lent_of facts site mounts) (λ l. gives l.settings) _ (sym f.answer) in
     let l : Lent = g.it in
@@ -198,4 +224,4 @@ refuses n (refused k) e = cc
 refuses n (gives l) e = cc
 
 pub lent-told : LentTold
-lent-told = record { accepts = accepts; refuses = λ facts site mounts n f. refuses n (lent_of facts site mounts) f.answer }
+lent-told = record { accepts = accepts; refuses = λ facts site mounts e f. refuses (number_of e) (lent_of facts site mounts) f.answer }

@@ -1,6 +1,6 @@
 -- What is claimed of what the gateway is lent.
 -- Assumes nothing.
-use Rattle.std.specs.Prelude.{ℕ, ◌+◌, ◌≤◌, ◌≡◌, List, length, Option, None, Some}
+use Rattle.std.specs.Prelude.{ℕ, ◌+◌, ◌≤◌, ◌≡◌, List, length, Option, None, Some, Ok, Err}
 use Rattle.octets.specs.Outcome.{refused, gives}
 use Rattle.octets.specs.Lists.{NoNul}
 use Rattle.mounts.specs.Mounts.{Mount, mounts_of}
@@ -9,7 +9,8 @@ use Rattle.lent.specs.Lent.{Lent, lent_of}
 use Rattle.lent.specs.Places.{settings_at, SettingsInside}
 use Rattle.lent.specs.Check.{LentFound}
 use Rattle.lent.specs.declared.places.SettingPlaces.{SettingPlaces}
-use Rattle.lent.specs.declared.check.Checked.TheVariants.{Lent as CheckedLent, Refused}
+use Rattle.octets.specs.Refusal.{number_of}
+use Rattle.octets.specs.declared.refusal.Refusal.{Refusal}
 
 -- what the form of the blocks gives, "name, NUL, value, NUL": no NUL in a value
 pub data ProperAuth : Option Auth → Type 0 where
@@ -67,5 +68,6 @@ pub record Accepted (facts site mounts : List ℕ) (p : SettingPlaces) : Type 0 
 -- what the check's answer says of what is lent
 pub record LentTold : Type 0 where
   pub accepts :
-      (facts site mounts : List ℕ) (p : SettingPlaces) → LentFound facts site mounts (CheckedLent p) → Accepted facts site mounts p
-  pub refuses : (facts site mounts : List ℕ) (n : ℕ) → LentFound facts site mounts (Refused n) → lent_of facts site mounts ≡ refused n
+      (facts site mounts : List ℕ) (p : SettingPlaces) → LentFound facts site mounts (Ok p) → Accepted facts site mounts p
+  pub refuses :
+      (facts site mounts : List ℕ) (e : Refusal) → LentFound facts site mounts (Err e) → lent_of facts site mounts ≡ refused (number_of e)

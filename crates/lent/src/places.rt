@@ -1,34 +1,20 @@
 // Where the values stand that connection facts and site settings give.
+use headers::setting::Held;
+use octets::span::Span;
 
-// A value in the connection facts.
-#[derive(Clone, Copy)]
-pub struct FactPlace {
-    pub start: usize,
-    pub len: usize,
+// AUTH_TYPE and REMOTE_USER, in the connection facts.
+#[derive(Clone, Copy, Debug, PartialEq, Eq)]
+pub struct Auth {
+    pub auth_type: Span,
+    pub remote_user: Span,
 }
 
-// A value in the site settings where site is true, else in the connection facts.
-#[derive(Clone, Copy)]
-pub struct ValuePlace {
-    pub site: bool,
-    pub start: usize,
-    pub len: usize,
-}
-
-#[derive(Clone, Copy)]
-pub enum AuthPlaces {
-    Given {
-        auth_type: FactPlace,
-        remote_user: FactPlace,
-    },
-    Absent,
-}
-
-#[derive(Clone, Copy)]
+// The places of all values. Connection facts are the first of the two blocks, site settings the second.
+#[derive(Clone, Copy, Debug, PartialEq, Eq)]
 pub struct SettingPlaces {
-    pub auth: AuthPlaces,
-    pub addr: FactPlace, // REMOTE_ADDR
-    pub name: ValuePlace, // SERVER_NAME
-    pub port: ValuePlace, // SERVER_PORT
-    pub software: ValuePlace, // SERVER_SOFTWARE
+    pub auth: Option<Auth>, // none where both are absent
+    pub addr: Span, // REMOTE_ADDR, in the connection facts
+    pub name: Held, // SERVER_NAME
+    pub port: Held, // SERVER_PORT
+    pub software: Held, // SERVER_SOFTWARE
 }

@@ -1,59 +1,58 @@
+use Rattle.std.proofs.Common.{Some}
 use Rattle.lent.proofs.SettingSteps.{well-named, no_name, no-port, no-software, no-addr, wrong-auth, all_found}
 use Rattle.lent.specs.Places.{FactFound, ValueFound, PortFound}
-use Rattle.lent.specs.declared.settings.Fact.TheVariants.{At as FactAt}
-use Rattle.lent.specs.declared.settings.Value.TheVariants.{At as ValueAt}
 use Rattle.octets.specs.Text.{bytes}
 use Rattle.lent.proofs.settings.find_settings.Goals as goal
-use Rattle.lent.proofs.settings.find_settings.Goals.{In-At, In-At-p, In-At-r, In-At-s}
+use Rattle.lent.proofs.settings.find_settings.Goals.{In_ok-name, In_ok-port, In_ok-software, In_ok-addr}
 
--- what was found, where the patterns matched
-name-got :
-    (c : In-At)
-    → (let a = c.args in
-    ValueFound a.facts.now a.site.now (bytes "SERVER_NAME") (ValueAt c.in-At.name))
-name-got c = rw c.in-At.is at c.find_value-v.ensures
+-- what was found so far
+name-got : (c : In_ok-name) → ValueFound c.args.facts.block.now c.args.site.block.now (bytes "SERVER_NAME") (Some c.in_ok-name.name)
+name-got c = c.in_ok-name.ensures {u = tt}
 
-port-got :
-    (c : In-At-p)
-    → (let a = c.args in
-    PortFound a.facts.now a.site.now (ValueAt c.in-At-p.port))
-port-got c = rw c.in-At-p.is at c.find_port-p.ensures
+port-got : (c : In_ok-port) → PortFound c.args.facts.block.now c.args.site.block.now (Some c.in_ok-port.port)
+port-got c = c.in_ok-port.ensures {u = tt}
 
-software-got :
-    (c : In-At-s)
-    → (let a = c.args in
-    ValueFound a.facts.now a.site.now (bytes "SERVER_SOFTWARE") (ValueAt c.in-At-s.software))
-software-got c = rw c.in-At-s.is at c.find_value-s.ensures
+software-got : (c : In_ok-software) → ValueFound c.args.facts.block.now c.args.site.block.now (bytes "SERVER_SOFTWARE") (Some c.in_ok-software.software)
+software-got c = c.in_ok-software.ensures {u = tt}
 
-addr-got : (c : In-At-r) → FactFound c.args.facts.now (bytes "REMOTE_ADDR") (FactAt c.in-At-r.addr)
-addr-got c = rw c.in-At-r.is at c.find_fact-r.ensures
+addr-got : (c : In_ok-addr) → FactFound c.args.facts.block.now (bytes "REMOTE_ADDR") (Some c.in_ok-addr.addr)
+addr-got c = c.in_ok-addr.ensures {u = tt}
 
-pub returns-in_default : goal.returns-in_default
-returns-in_default c =
-    no_name _ _ (well-named _ _ _ c.requires.0) (well-named _ _ _ c.requires.1) (rw c.in_default.is at c.find_value-v.ensures)
+pub returns-in_err-name : goal.returns-in_err-name
+returns-in_err-name c =
+    let e = c.in_err-name.ensures in
+    rw c.from_residual.ensures (no_name _ _ (well-named _ _ c.args.facts.held) (well-named _ _ c.args.site.held) e)
 
-pub returns-in_default-p : goal.returns-in_default-p
-returns-in_default-p c =
-    no-port _ _ (well-named _ _ _ c.requires.0) (well-named _ _ _ c.requires.1) _ (name-got (goal.at.returns-in_default-p c).In-At) (rw c.in_default-p.is at c.find_port-p.ensures)
+pub returns-in_err-port : goal.returns-in_err-port
+returns-in_err-port c =
+    let e = c.in_err-port.ensures in
+    let k = goal.at.returns-in_err-port c in
+    rw c.from_residual-in_err-port.ensures
+    (no-port _ _ (well-named _ _ c.args.facts.held) (well-named _ _ c.args.site.held) _ (name-got k.In_ok-name) e)
 
-pub returns-in_default-s : goal.returns-in_default-s
-returns-in_default-s c =
-    no-software _ _ (well-named _ _ _ c.requires.0) (well-named _ _ _ c.requires.1) _ (name-got (goal.at.returns-in_default-s c).In-At) _ (port-got (goal.at.returns-in_default-s c).In-At-p) (rw c.in_default-s.is at c.find_value-s.ensures)
+pub returns-in_err-software : goal.returns-in_err-software
+returns-in_err-software c =
+    let e = c.in_err-software.ensures in
+    let k = goal.at.returns-in_err-software c in
+    rw c.from_residual-in_err-software.ensures
+    (no-software _ _ (well-named _ _ c.args.facts.held) (well-named _ _ c.args.site.held) _ (name-got k.In_ok-name) _ (port-got k.In_ok-port) e)
 
-pub find_fact-r-requires : goal.find_fact-r-requires
-find_fact-r-requires c = c.requires.0
+pub returns-in_err-addr : goal.returns-in_err-addr
+returns-in_err-addr c =
+    let e = c.in_err-addr.ensures in
+    let k = goal.at.returns-in_err-addr c in
+    rw c.from_residual-in_err-addr.ensures
+    (no-addr _ _ (well-named _ _ c.args.facts.held) (well-named _ _ c.args.site.held) _ (name-got k.In_ok-name) _ (port-got k.In_ok-port) _ (software-got k.In_ok-software) e)
 
-pub returns-in_default-r : goal.returns-in_default-r
-returns-in_default-r c =
-    no-addr _ _ (well-named _ _ _ c.requires.0) (well-named _ _ _ c.requires.1) _ (name-got (goal.at.returns-in_default-r c).In-At) _ (port-got (goal.at.returns-in_default-r c).In-At-p) _ (software-got (goal.at.returns-in_default-r c).In-At-s) (rw c.in_default-r.is at c.find_fact-r.ensures)
-
-pub find_auth-a-requires : goal.find_auth-a-requires
-find_auth-a-requires c = c.requires.0
-
-pub returns-in_default-a : goal.returns-in_default-a
-returns-in_default-a c =
-    wrong-auth _ _ (well-named _ _ _ c.requires.0) (well-named _ _ _ c.requires.1) _ (name-got (goal.at.returns-in_default-a c).In-At) _ (port-got (goal.at.returns-in_default-a c).In-At-p) _ (software-got (goal.at.returns-in_default-a c).In-At-s) _ (addr-got (goal.at.returns-in_default-a c).In-At-r) (rw c.in_default-a.is at c.find_auth-a.ensures)
+pub returns-in_err-auth : goal.returns-in_err-auth
+returns-in_err-auth c =
+    let e = c.in_err-auth.ensures in
+    let k = goal.at.returns-in_err-auth c in
+    rw c.from_residual-in_err-auth.ensures
+    (wrong-auth _ _ (well-named _ _ c.args.facts.held) (well-named _ _ c.args.site.held) _ (name-got k.In_ok-name) _ (port-got k.In_ok-port) _ (software-got k.In_ok-software) _ (addr-got k.In_ok-addr) e)
 
 pub returns : goal.returns
 returns c =
-    all_found _ _ (well-named _ _ _ c.requires.0) (well-named _ _ _ c.requires.1) _ (name-got (goal.at.returns c).In-At) _ (port-got (goal.at.returns c).In-At-p) _ (software-got (goal.at.returns c).In-At-s) _ (addr-got (goal.at.returns c).In-At-r) _ (rw c.in-At-a.is at c.find_auth-a.ensures)
+    let a = c.in_ok-auth.ensures in
+    let k = goal.at.returns c in
+    all_found _ _ (well-named _ _ c.args.facts.held) (well-named _ _ c.args.site.held) _ (name-got k.In_ok-name) _ (port-got k.In_ok-port) _ (software-got k.In_ok-software) _ (addr-got k.In_ok-addr) _ a
