@@ -10,7 +10,8 @@ use lib.ListN.{length}
 use Rattle.octets.specs.Outcome.{Outcome, refused, gives}
 use Rattle.octets.specs.Copy.{over}
 use Rattle.octets.proofs.Lists.{part-more}
-use Rattle.scgi.specs.Digits.{NetDigits, digits_from}
+use Rattle.scgi.specs.Digits.{digits_from}
+use Rattle.scgi.specs.declared.netstring.Digits.{Digits}
 use Rattle.scgi.specs.Read.{places_at, read_of}
 use Rattle.scgi.proofs.Claims.{more-bytes-keep-answer, used-within, reads-in-steps}
 use Rattle.socket.specs.Socket.{begun, Fits, soundly, step_at_end}
@@ -21,7 +22,7 @@ use Rattle.socket.proofs.Reached.{AtEnd, AtFault, Reached, fault-not-cut, not-bo
 
 -- an answer other than 1 has its block, if any, within the bytes
 module _ (lent t run : List ℕ) (n : read_of t ≡ refused 1 → ⊥) where
-  by-colon : (d : NetDigits) → digits_from 0 0 t ≡ gives d → (c : Bool) → d.colon ≡ c → held_of lent (t ++ run) ≡ held_of lent t
+  by-colon : (d : Digits) → digits_from 0 0 t ≡ gives d → (c : Bool) → d.colon ≡ c → held_of lent (t ++ run) ≡ held_of lent t
   by-colon d e false c = absurd (n ((reads-in-steps t).no_length 1 (by_digits t (gives d) e ∙ rw c)))
   by-colon d e true c =
       let s : Socket = begun d.count d.value in
@@ -33,7 +34,7 @@ module _ (lent t run : List ℕ) (n : read_of t ≡ refused 1 → ⊥) where
   held_stays : held_of lent (t ++ run) ≡ held_of lent t
   held_stays = by (digits_from 0 0 t) refl
     where
-      by : (o : Outcome NetDigits) → digits_from 0 0 t ≡ o → held_of lent (t ++ run) ≡ held_of lent t
+      by : (o : Outcome Digits) → digits_from 0 0 t ≡ o → held_of lent (t ++ run) ≡ held_of lent t
       by (gives d) e = by-colon d e d.colon refl
       by (refused k) e =
           held_none lent (t ++ run) k (by_digits (t ++ run) (refused k) (go_on-held t run (refused k) e)) ∙ sym (held_none lent t k (by_digits t (refused k) e))

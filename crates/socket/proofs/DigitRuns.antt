@@ -11,7 +11,8 @@ use lib.Seq.{take-nil}
 use Rattle.octets.specs.Outcome.{Outcome, refused, gives, then}
 use Rattle.octets.specs.Kinds.{one_of}
 use Rattle.octets.proofs.Copies.{over-nil}
-use Rattle.scgi.specs.Digits.{NetDigits, digits_from, length_by}
+use Rattle.scgi.specs.Digits.{digits_from, length_by}
+use Rattle.scgi.specs.declared.netstring.Digits.{Digits}
 use Rattle.scgi.specs.Netstring.{length_of}
 use Rattle.scgi.specs.Claims.{digit_numbers, DigitsWithin, go_on}
 use Rattle.scgi.specs.Read.{read_of}
@@ -25,7 +26,7 @@ use Rattle.socket.proofs.Reached.{InLength, Reached, sound-open, fault-within, s
 use Rattle.socket.proofs.BlockRuns.{block-reached}
 
 -- up to its colon a run says the same
-module _ (i v : ℕ) (rest : List ℕ) (d : NetDigits) (few : i ≤ v + 1) (small : v ≤ 16384) (c : d.colon ≡ true) (e : digits_from i v rest ≡ gives d) where
+module _ (i v : ℕ) (rest : List ℕ) (d : Digits) (few : i ≤ v + 1) (small : v ≤ 16384) (c : d.colon ≡ true) (e : digits_from i v rest ≡ gives d) where
   abbrev j : ℕ
   j = d.count - i + 1
 
@@ -36,7 +37,7 @@ module _ (i v : ℕ) (rest : List ℕ) (d : NetDigits) (few : i ≤ v + 1) (smal
   l = simp length-take (omega (arith, known.onward, known.colon_there c))
 
   -- a run that ended before its colon would have said more with the bytes behind it
-  by-colon : (x : NetDigits) → digits_from i v (take j rest) ≡ gives x → (t : Bool) → x.colon ≡ t → cond t (gives x) (digits_from x.count x.value (drop j rest)) ≡ gives d → x ≡ d
+  by-colon : (x : Digits) → digits_from i v (take j rest) ≡ gives x → (t : Bool) → x.colon ≡ t → cond t (gives x) (digits_from x.count x.value (drop j rest)) ≡ gives d → x ≡ d
   by-colon x q true z f = cc
   by-colon x q false z f =
       let u = digits-go-on.within (take j rest) i v x few small q in
@@ -46,7 +47,7 @@ module _ (i v : ℕ) (rest : List ℕ) (d : NetDigits) (few : i ≤ v + 1) (smal
   pub to-colon : digits_from i v (take j rest) ≡ gives d
   to-colon = by (digits_from i v (take j rest)) refl (sym (digits-go-on.two_runs (take j rest) (drop j rest) i v) ∙ ap (digits_from i v) (take-append-drop j rest) ∙ e)
     where
-      by : (o : Outcome NetDigits) → digits_from i v (take j rest) ≡ o → then o (go_on (drop j rest)) ≡ gives d → o ≡ gives d
+      by : (o : Outcome Digits) → digits_from i v (take j rest) ≡ o → then o (go_on (drop j rest)) ≡ gives d → o ≡ gives d
       by (refused k) q f = f
       by (gives x) q f = ap gives (by-colon x q x.colon refl f)
 
@@ -57,7 +58,7 @@ module _ (Q : Type 0) (lent t rest b buffer : List ℕ) (s : Socket) (F : Fits s
   joined-digits : (x : List ℕ) → digits_from 0 0 (t ++ x) ≡ digits_from s.digits s.len x
   joined-digits x = go_on-held t x (gives (digits_in s false)) I.said
 
-  joined_length : (o : Outcome NetDigits) → digits_from s.digits s.len rest ≡ o → length_of (t ++ rest) ≡ then o length_by
+  joined_length : (o : Outcome Digits) → digits_from s.digits s.len rest ≡ o → length_of (t ++ rest) ≡ then o length_by
   joined_length o e = by_digits (t ++ rest) o (joined-digits rest ∙ e)
 
   -- a fault, and digits that may go on
@@ -78,7 +79,7 @@ module _ (Q : Type 0) (lent t rest b buffer : List ℕ) (s : Socket) (F : Fits s
         at = record { ended = refl; refuses = r; not_cut = n; no_body = append-nil b ∙ I.no_body };
       }
 
-  module _ (d : NetDigits) (e : digits_from s.digits s.len rest ≡ gives d) where
+  module _ (d : Digits) (e : digits_from s.digits s.len rest ≡ gives d) where
     bounds : DigitsWithin s.digits (length rest) d
     bounds = digits-go-on.within rest s.digits s.len d F.digits F.len e
 
@@ -133,7 +134,7 @@ module _ (Q : Type 0) (lent t rest b buffer : List ℕ) (s : Socket) (F : Fits s
         (record { none = refl; said = said; count = omega (arith, count); no_body = I.no_body })
         held room)
 
-  pub digits-reached : (o : Outcome NetDigits) → digits_from s.digits s.len rest ≡ o → Reached Q lent t rest b (fed_by s rest buffer o)
+  pub digits-reached : (o : Outcome Digits) → digits_from s.digits s.len rest ≡ o → Reached Q lent t rest b (fed_by s rest buffer o)
   unfolding fed_by
   digits-reached (refused k) e = digits-end k e
   digits-reached (gives d) e = by d.colon refl

@@ -17,7 +17,8 @@ use Rattle.octets.proofs.Bools.{and_right}
 use Rattle.octets.proofs.ByteRules.{below}
 use Rattle.octets.proofs.Refusals.{Refuses, with_number, not_refused, number-of, one_of_all}
 use Rattle.scgi.specs.Check.{check_block}
-use Rattle.scgi.specs.Digits.{NetDigits, digits_from}
+use Rattle.scgi.specs.Digits.{digits_from}
+use Rattle.scgi.specs.declared.netstring.Digits.{Digits}
 use Rattle.scgi.specs.Claims.{digit_numbers, block_numbers}
 use Rattle.scgi.proofs.Claims.{numbers-hold}
 use Rattle.socket.specs.Socket.{in_length, in_block, in_body, at_end, at_fault, stage_number, stage_of, begun, moved, new, faulted, limited, is_kept, sound_refusal, soundly}
@@ -85,7 +86,7 @@ block-known s rest buffer = by (leb (length rest) left) (eqb (get_or rest left 0
         (take s.len (over buffer s.stored (take left rest))) _ refl
     by false false = with_number refl
 
-digits-known : (s : Socket) (run buffer : List ℕ) (o : Outcome NetDigits) → digits_from s.digits s.len run ≡ o → Known-in (fed_by s run buffer o)
+digits-known : (s : Socket) (run buffer : List ℕ) (o : Outcome Digits) → digits_from s.digits s.len run ≡ o → Known-in (fed_by s run buffer o)
 unfolding fed_by
 digits-known s run buffer (refused k) e = with_number (among-digits k (numbers-hold.digits run s.digits s.len k e))
 digits-known s run buffer (gives d) e = by d.colon

@@ -14,7 +14,8 @@ use Rattle.octets.specs.Outcome.{refused, gives, Outcome, then}
 use Rattle.octets.proofs.Lists.{part-more}
 use Rattle.scgi.specs.Check.{check_block}
 use Rattle.scgi.specs.Digits.{digits_from}
-use Rattle.scgi.specs.Netstring.{NetLength, length_from, length_of}
+use Rattle.scgi.specs.Netstring.{length_from, length_of}
+use Rattle.scgi.specs.declared.netstring.Length.{Length}
 use Rattle.scgi.specs.Read.{Places, places_at, read_of, block_in}
 use Rattle.scgi.proofs.Claims.{reads-in-steps, more-bytes-keep-answer, used-within}
 use Rattle.socket.specs.Socket.{Stage, in_length, in_block, in_body, at_end, at_fault, stage_of, new, Fits, soundly, Stepped, fed_at, feed_of}
@@ -95,7 +96,7 @@ cut-in-body s t b i h =
 
 -- the block at the front of what the buffer holds
 block_held :
-    (lent t : List ℕ) (l : NetLength) → 16384 ≤ length lent → length_of t ≡ gives l → l.next + l.len ≤ length t
+    (lent t : List ℕ) (l : Length) → 16384 ≤ length lent → length_of t ≡ gives l → l.next + l.len ≤ length t
     → take l.len (held_of lent t) ≡ take l.len (drop l.next t)
 unfolding held_of
 block_held lent t l room e h =

@@ -12,8 +12,9 @@ use Rattle.octets.specs.Outcome.{gives}
 use Rattle.octets.proofs.Lists.{part-more}
 use Rattle.octets.proofs.Outcomes.{gives-once}
 use Rattle.scgi.specs.Check.{check_block}
-use Rattle.scgi.specs.Digits.{NetDigits, digits_from}
-use Rattle.scgi.specs.Netstring.{NetLength}
+use Rattle.scgi.specs.Digits.{digits_from}
+use Rattle.scgi.specs.declared.netstring.Digits.{Digits}
+use Rattle.scgi.specs.declared.netstring.Length.{Length}
 use Rattle.scgi.specs.Claims.{Links}
 use Rattle.scgi.specs.Read.{Places, places_at, read_of, body_in}
 use Rattle.scgi.proofs.Claims.{digits-go-on, more-bytes-keep-answer, used-within, reads-in-steps}
@@ -43,8 +44,8 @@ module _ (s : Socket) (t b more : List ℕ) (F : Fits s) (p : Places) (e : read_
   before_colon : InLength s t b → length t ≤ p.body_start
   before_colon i =
       let w = digits-go-on.said (t ++ more) seen.l seen.comma_at.length_read in
-      let d : NetDigits = w.digits in
-      let n : seen.l.next ≡ d.count + 1 = ap (λ (x : NetLength). x.next) w.is in
+      let d : Digits = w.digits in
+      let n : seen.l.next ≡ d.count + 1 = ap (λ (x : Length). x.next) w.is in
       let a : digits_from s.digits s.len more ≡ gives d = sym (go_on-held t more (gives (digits_in s false)) i.said) ∙ w.read in
       let all : length t ≡ s.digits = digit-count s t b i in
       omega (arith, start, n, all, (digits-go-on.within more s.digits s.len d F.digits F.len a).onward)
@@ -56,8 +57,8 @@ module _ (s : Socket) (t b more : List ℕ) (F : Fits s) (p : Places) (e : read_
   before-comma : InBlock s t b → length t ≤ p.body_start
   before-comma i =
       let k : seen.l ≡ length_in s = length-known i.said in
-      let n : seen.l.next ≡ s.digits + 1 = ap (λ (x : NetLength). x.next) k in
-      let v : seen.l.len ≡ s.len = ap (λ (x : NetLength). x.len) k in
+      let n : seen.l.next ≡ s.digits + 1 = ap (λ (x : Length). x.next) k in
+      let v : seen.l.len ≡ s.len = ap (λ (x : Length). x.len) k in
       omega (arith, start, n, v, i.count, F.stored)
 
   -- in the body the places are known too
@@ -68,7 +69,7 @@ module _ (s : Socket) (t b more : List ℕ) (F : Fits s) (p : Places) (e : read_
       let same : take s.len (drop (s.digits + 1) (t ++ more)) ≡ take s.len (drop (s.digits + 1) t) =
       part-more t more (s.digits + 1) s.len (omega (arith, i.count)) in
       let n : seen.n ≡ s.body = gives-once seen.n s.body (sym c ∙ ap check_block same ∙ i.checked) in
-      seen.at ∙ ap (λ (l : NetLength). places_at l seen.n) k ∙ ap (places_at (length_in s)) n
+      seen.at ∙ ap (λ (l : Length). places_at l seen.n) k ∙ ap (places_at (length_in s)) n
 
   in-the-body : InBody s t b → s.seen < s.body → b ≡ take (length t - p.body_start) (body_in (t ++ more) p)
   in-the-body i h =

@@ -3,21 +3,21 @@
 use Prim.{absurd}
 use Prim.Native.Nat.{ℕ, min, ◌+◌, ◌-◌, ◌≤◌, ◌<◌}
 use mathlib.Core.Path.{◌≡◌, refl, sym, ap, ◌∙◌}
-use mathlib.Core.Bool.{Bool, true, false, cond, ◌&&◌, false≢true}
+use mathlib.Core.Bool.{Bool, true, false, cond, false≢true}
 use mathlib.Core.List.{List}
 use native.Mathlib.Omega.{arith}
 use lib.Dec.{eqb, leb}
 use lib.ListN.{length, get_or, take, drop, length-drop}
 use lib.Seq.{take_all, drop-drop, get_or-drop}
-use borrow.Author.Tests.{lt-ltb, le-ltb, le-leb, lt-leb, eq-eqb, ne_eqb, eqb-false, leb-true, leb-false}
+use borrow.Author.Tests.{lt-ltb, le-ltb, le-leb, lt-leb, eq-eqb, ne_eqb, leb-true, leb-false}
 use Rattle.octets.specs.Outcome.{Outcome, refused, gives}
 use Rattle.octets.specs.Copy.{over}
-use Rattle.octets.proofs.Bools.{and_right, and-false}
+use Rattle.octets.proofs.Bools.{and-false}
 use Rattle.octets.proofs.Lists.{part}
 use Rattle.scgi.specs.Check.{check_block}
-use Rattle.scgi.specs.Digits.{NetDigits, digits_from}
-use Rattle.socket.specs.Socket.{in_length, in_block, in_body, at_end, at_fault, stage_of, stage_number, begun, new, faulted, moved, Fits, limited, is_kept, sound_refusal, soundly}
-use Rattle.socket.specs.Socket.{at_more, step_at_fault, step_at_end, too_short, fed_body, fed_checked, fed_block, fed_by, fed_at, feed_of, Stepped, fed_digits, fed_head}
+use Rattle.scgi.specs.declared.netstring.Digits.{Digits}
+use Rattle.socket.specs.Socket.{in_block, in_body, at_end, at_fault, stage_of, stage_number, begun, new, faulted, moved, Fits, is_kept, soundly}
+use Rattle.socket.specs.Socket.{at_more, step_at_fault, step_at_end, too_short, fed_body, fed_checked, fed_block, fed_by, fed_at, feed_of, fed_digits}
 use Rattle.socket.specs.declared.reader.Socket.{Socket}
 
 module _ (s : Socket) (run : List ℕ) (at : ℕ) where
@@ -104,21 +104,8 @@ module _ (s : Socket) (run : List ℕ) (at : ℕ) where
   unfolding fed_checked
   block-right n o e = rw e
 
--- the digits first, or the block at once: what is then left is the block x from a place of the run on
-pub record Ready (s x : Socket) (at : ℕ) (run buffer : List ℕ) : Type 0 where
-  pub fits : Fits x
-  pub within_run : at ≤ length run
-  pub is : fed_head s run buffer ≡ fed_block x (drop at run) buffer
-
-module _ (s : Socket) (run buffer : List ℕ) where
-  pub digits-first : s.stage ≡ 0 → (x : Stepped) → fed_by s run buffer (digits_from s.digits s.len run) ≡ x → fed_head s run buffer ≡ x
-  digits-first q x e = rw (eq-eqb s.stage 0 q) e
-
-  pub block-at-once : (s.stage ≡ 0 → ⊥) → fed_head s run buffer ≡ fed_block s run buffer
-  block-at-once q = rw (ne_eqb s.stage 0 q)
-
 -- what the digits say
-module _ (s : Socket) (run buffer : List ℕ) (o : Outcome NetDigits) where
+module _ (s : Socket) (run buffer : List ℕ) (o : Outcome Digits) where
   pub digits-fault : (k : ℕ) → o ≡ refused k → fed_by s run buffer o ≡ record { step = step_at_fault k; buffer = buffer }
   unfolding fed_by
   digits-fault k e = rw e
@@ -132,11 +119,7 @@ module _ (s : Socket) (run buffer : List ℕ) (o : Outcome NetDigits) where
     unfolding fed_by
     digits-colon f = rw (e, f)
 
--- A state that was brought within the limits.
-
-fits-limited : (s : Socket) → Fits (limited s)
-fits-limited s =
-    record { refusal = omega arith; digits = omega arith; len = omega arith; stored = omega arith; body = omega arith; seen = omega arith }
+-- States within the limits.
 
 pub fits-new : Fits new
 fits-new =
@@ -160,51 +143,6 @@ fits-faulted k e =
       seen = omega arith;
     }
 
-fits-refusal : (s : Socket) → Fits (sound_refusal s)
-fits-refusal s = by (eqb s.stage 4 && is_kept s.refusal) refl
-  where
-    by : (t : Bool) → eqb s.stage 4 && is_kept s.refusal ≡ t → Fits (cond t (faulted s.refusal) new)
-    by true e = fits-faulted s.refusal (and_right (eqb s.stage 4) (is_kept s.refusal) e)
-    by false e = fits-new
-
--- 2 to 10 are kept, and no other
-below_two : (k : ℕ) → k < 2 → is_kept k ≡ false
-below_two k h = ap (λ (t : Bool). t && leb k 10) (lt-leb 2 k h)
-
-above-ten : (k : ℕ) → 10 < k → is_kept k ≡ false
-above-ten k h = ap (λ (t : Bool). leb 2 k && t) (lt-leb k 10 h) ∙ and-false (leb 2 k)
-
-between : (k : ℕ) → 2 ≤ k → k ≤ 10 → is_kept k ≡ true
-between k l h = ap (λ (t : Bool). t && leb k 10) (le-leb 2 k l) ∙ le-leb k 10 h
-
--- by its stage and its refusal
-module _ (s : Socket) where
-  pub no-stage : (s.stage ≡ 4 → ⊥) → sound_refusal s ≡ new
-  no-stage h = rw (ne_eqb s.stage 4 h)
-
-  module _ (q : s.stage ≡ 4) where
-    by-kept : (t : Bool) → is_kept s.refusal ≡ t → sound_refusal s ≡ cond t (faulted s.refusal) new
-    by-kept t e = rw (eq-eqb s.stage 4 q, e)
-
-    pub too_small : s.refusal < 2 → sound_refusal s ≡ new
-    too_small h = by-kept false (below_two s.refusal h)
-
-    pub too_large : 10 < s.refusal → sound_refusal s ≡ new
-    too_large h = by-kept false (above-ten s.refusal h)
-
-    pub kept : 2 ≤ s.refusal → s.refusal ≤ 10 → sound_refusal s ≡ faulted s.refusal
-    kept l h = by-kept true (between s.refusal l h)
-
-pub fits-soundly : (s : Socket) → Fits (soundly s)
-fits-soundly s = by (leb s.stage 3)
-  where
-    by : (t : Bool) → Fits (cond t (limited s) (sound_refusal s))
-    by true = fits-limited s
-    by false = fits-refusal s
-
-pub fits_by : (s x : Socket) → x ≡ soundly s → Fits x
-fits_by s x e = rw e (fits-soundly s)
-
 -- a buffer that is too short, and one that is not
 module _ (s : Socket) (run buffer : List ℕ) where
   pub no_room : length buffer < 16384 → feed_of s run buffer ≡ too_short s buffer
@@ -217,19 +155,13 @@ module _ (s : Socket) (run buffer : List ℕ) where
     with-room = rw (le-ltb (length buffer) 16384 h, e)
 
     -- by the stage
-    pub in_head : x.stage < 2 → feed_of s run buffer ≡ fed_head x run buffer
+    pub in-the-length : x.stage ≡ 0 → feed_of s run buffer ≡ fed_digits x run buffer
     unfolding fed_at
-    in_head h = with-room ∙ by (eqb x.stage 0) refl
-      where
-        by :
-            (t : Bool) → eqb x.stage 0 ≡ t
-            → fed_at (cond t in_length (cond (eqb x.stage 1) in_block (cond (eqb x.stage 2) in_body (cond (eqb x.stage 3) at_end at_fault)))) x run buffer
-            ≡ cond t (fed_digits x run buffer) (fed_block x run buffer)
-        by true q = refl
-        by false q =
-            let n = eqb-false x.stage 0 q in
-            let o : x.stage ≡ 1 = omega arith in
-            rw (eq-eqb x.stage 1 o)
+    in-the-length q = with-room ∙ ap (λ n. fed_at (stage_of n) x run buffer) q
+
+    pub in-the-block : x.stage ≡ 1 → feed_of s run buffer ≡ fed_block x run buffer
+    unfolding fed_at
+    in-the-block q = with-room ∙ ap (λ n. fed_at (stage_of n) x run buffer) q
 
     pub in-the-body : x.stage ≡ 2 → feed_of s run buffer ≡ record { step = fed_body x run; buffer = buffer }
     unfolding fed_at

@@ -5,13 +5,14 @@ use Rattle.octets.specs.Outcome.{Outcome, refused, gives, then}
 use Rattle.octets.specs.Kinds.{one_of}
 use Rattle.octets.specs.Copy.{over}
 use Rattle.scgi.specs.Check.{check_block}
-use Rattle.scgi.specs.Netstring.{NetLength, length_of}
+use Rattle.scgi.specs.Netstring.{length_of}
+use Rattle.scgi.specs.declared.netstring.Length.{Length}
 use Rattle.scgi.specs.Read.{Places, read_of, block_in, body_in}
 use Rattle.socket.specs.Socket.{Ended, Step, Stepped, new, too_short, feed_of}
 use Rattle.socket.specs.declared.reader.Socket.{Socket}
 
 -- the block's bytes among s
-abbrev pub stored_by : List ℕ → Outcome NetLength → List ℕ
+abbrev pub stored_by : List ℕ → Outcome Length → List ℕ
 stored_by s (refused n) = []
 stored_by s (gives l) = take l.len (drop l.next s)
 

@@ -1,14 +1,16 @@
 -- The reader of bytes that come in runs: its state, and what a run makes of it.
 -- Assumes nothing.
-use Rattle.std.specs.Prelude.{ℕ, min, ◌+◌, ◌-◌, ◌≤◌, ◌≡◌, Bool, cond, ◌&&◌, List, eqb, leb, ltb, length, get_or, take, drop}
+use Rattle.std.specs.Prelude.{Result, ℕ, min, ◌+◌, ◌-◌, ◌≤◌, ◌≡◌, Bool, cond, ◌&&◌, List, eqb, leb, ltb, length, get_or, take, drop}
 use Rattle.octets.specs.Outcome.{Outcome, refused, gives}
 use Rattle.octets.specs.Kinds.{within}
 use Rattle.octets.specs.Copy.{over}
+use Rattle.octets.specs.Refusal.{outcome}
+use Rattle.octets.specs.declared.refusal.Refusal.{Refusal}
 use Rattle.scgi.specs.Check.{check_block}
-use Rattle.scgi.specs.Digits.{NetDigits, digits_from}
+use Rattle.scgi.specs.Digits.{digits_from}
+use Rattle.scgi.specs.declared.netstring.Digits.{Digits}
 use Rattle.socket.specs.declared.reader.Socket.{Socket}
-use Rattle.socket.specs.declared.reader.Answer.{Answer}
-use Rattle.socket.specs.declared.reader.Answer.TheVariants.{Request, Refused}
+use Rattle.socket.specs.declared.reader.Request.{Request}
 use Rattle.socket.specs.declared.reader.Taken.{Taken}
 
 -- The state.
@@ -84,9 +86,8 @@ pub record Ended : Type 0 where
   pub used : ℕ
 
 -- what the code's answer says
-abbrev pub answer_outcome : Answer → Outcome Ended
-answer_outcome (Request b n u) = gives (record { block_length = b; body_length = n; used = u })
-answer_outcome (Refused k) = refused k
+abbrev pub answer_outcome : Result Request Refusal → Outcome Ended
+answer_outcome = outcome (λ r. record { block_length = r.block_len; body_length = r.body_len; used = r.used })
 
 -- the state after a run, the answer, and the run's counts: "for each run says how many of its bytes belong to the body and how many come
 -- after the end"
@@ -161,7 +162,7 @@ fed_block s rest buffer =
     record { step = step; buffer = filled }
 
 -- the length digits, as read from the run: a refusal, or digits with or without their colon
-unfoldable pub fed_by : Socket → List ℕ → List ℕ → Outcome NetDigits → Stepped
+unfoldable pub fed_by : Socket → List ℕ → List ℕ → Outcome Digits → Stepped
 fed_by s run buffer (refused k) = record { step = step_at_fault k; buffer = buffer }
 fed_by s run buffer (gives d) =
     cond d.colon (fed_block (begun d.count d.value) (drop (d.count - s.digits + 1) run) buffer)
@@ -197,7 +198,3 @@ pub record Fits (s : Socket) : Type 0 where
   pub stored : s.stored ≤ s.len
   pub body : s.body ≤ 1048576
   pub seen : s.seen ≤ s.body
-
--- the length digits, or the block at once where their colon has come
-abbrev pub fed_head : Socket → List ℕ → List ℕ → Stepped
-fed_head s run buffer = cond (eqb s.stage (stage_number in_length)) (fed_digits s run buffer) (fed_block s run buffer)

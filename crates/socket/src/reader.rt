@@ -1,15 +1,17 @@
 // The reader's state, by value, and what each run of bytes makes of it.
-ghost use Rattle.std.specs.Prelude.{◌≡◌, min, ◌+◌, ◌≤◌, length, take, drop};
-ghost use Rattle.octets.specs.Outcome.{refusal_of};
+ghost use Rattle.std.specs.Prelude.{◌≡◌, ◌≤◌, ◌<◌, length, take, drop};
+ghost use Rattle.octets.specs.Refusal.{number_of};
 ghost use Rattle.scgi.specs.Check.{check_block};
 ghost use Rattle.socket.specs.Socket.{begun, new, faulted, Fits, answer_outcome, Fed, FedIn};
-ghost use Rattle.socket.specs.Socket.{at_more, step_at_fault, step_at_end, end_of, fed_body, fed_checked, fed_block, fed_head, feed_of, soundly, sound_refusal};
+ghost use Rattle.socket.specs.Socket.{at_more, step_at_fault, step_at_end, end_of, fed_body, fed_checked, fed_block, fed_digits, feed_of, soundly, sound_refusal};
 
 use bulk::copy::put_any;
-use scgi::check::{Checked, check_block};
+use octets::refusal::Refusal;
+use scgi::check::check_block;
 use scgi::netstring::{Digits, read_digits};
 
-// How far the request has come, by number: in the length digits; in the block, or before its comma; in the body; whole; refused.
+// How far the request has come: in the length digits; in the block, or before its comma; in the body; whole; refused. By number and not as an
+// enum, since a C program keeps the state, which may come back with any number.
 const LENGTH: usize = 0;
 
 const BLOCK: usize = 1;
@@ -22,7 +24,7 @@ const REFUSED: usize = 4;
 
 // Numbers alone, so that a C program can keep it.
 #[repr(C)]
-#[derive(Clone, Copy)]
+#[derive(Clone, Copy, Debug, PartialEq, Eq)]
 pub struct Socket {
     pub stage: usize,
     // The refusal, where the stage says so.
@@ -37,50 +39,36 @@ pub struct Socket {
     pub seen: usize,
 }
 
-#[derive(Clone, Copy)]
-pub enum Answer {
-    // The request is whole. Its block stands at the front of the buffer.
-    Request {
-        block_len: usize,
-        body_len: usize,
-        used: usize,
-    },
-    Refused(u8),
-}
-
-impl Answer {
-    // The number of the refusal.
-    pub fn number(self) -> u8
-        ensures { result ≡ refusal_of (answer_outcome self) }
-    {
-        match self {
-            Answer::Request {
-                block_len: _,
-                body_len: _,
-                used: _,
-            } => 0,
-            Answer::Refused(n) => n,
-        }
-    }
+// A request that is whole. Its block stands at the front of the buffer.
+#[derive(Clone, Copy, Debug, PartialEq, Eq)]
+pub struct Request {
+    pub block_len: usize,
+    pub body_len: usize,
+    pub used: usize,
 }
 
 // The state after a run, beside the answer and the run's counts.
-#[derive(Clone, Copy)]
+#[derive(Clone, Copy, Debug, PartialEq, Eq)]
 pub struct Taken {
     pub state: Socket,
-    pub answer: Answer,
+    pub answer: Result<Request, Refusal>,
     // How many bytes of the run belong to the body, and how many come after the end.
     pub body: usize,
     pub after: usize,
 }
 
-fn least(a: usize, b: usize) -> usize
-    ensures { result ≡ min a b }
-{
-    if a < b {
-        return a;
+impl Taken {
+    // The run brought a refusal.
+    fn refused(refusal: Refusal) -> Self
+        ensures { Fed (step_at_fault (number_of refusal)) result }
+    {
+        Taken {
+            state: Socket::faulted(usize::from(refusal.number())),
+            answer: Err(refusal),
+            body: 0,
+            after: 0,
+        }
     }
-    b
 }
 
 impl Socket {
@@ -107,17 +95,13 @@ impl Socket {
     }
 
     // The state after a refusal.
-    fn faulted(k: usize) -> Self
-        ensures { result ≡ faulted k }
+    fn faulted(refusal: usize) -> Self
+        ensures { result ≡ faulted refusal }
     {
         Socket {
             stage: REFUSED,
-            refusal: k,
-            digits: 0,
-            len: 0,
-            stored: 0,
-            body: 0,
-            seen: 0,
+            refusal,
+            ..Socket::fresh()
         }
     }
 
@@ -125,13 +109,7 @@ impl Socket {
     fn sound_refusal(self) -> Self
         ensures { result ≡ sound_refusal self }
     {
-        if self.stage != REFUSED {
-            return Socket::fresh();
-        }
-        if self.refusal < 2 {
-            return Socket::fresh();
-        }
-        if 10 < self.refusal {
+        if self.stage != REFUSED || self.refusal < 2 || 10 < self.refusal {
             return Socket::fresh();
         }
         Socket::faulted(self.refusal)
@@ -145,62 +123,83 @@ impl Socket {
             return self.sound_refusal();
         }
         self.refusal = 0;
-        self.len = least(self.len, 16384);
-        self.digits = least(self.digits, self.len + 1);
-        self.stored = least(self.stored, self.len);
-        self.body = least(self.body, 1048576);
-        self.seen = least(self.seen, self.body);
+        self.len = self.len.min(16384);
+        self.digits = self.digits.min(self.len + 1);
+        self.stored = self.stored.min(self.len);
+        self.body = self.body.min(1048576);
+        self.seen = self.seen.min(self.body);
         self
     }
 
-    // Before the end: the run had so many bytes of the body.
-    fn more(self, count: usize) -> Taken
-        ensures { Fed (at_more self count) result }
+    // What a run makes of the state. The block's bytes go to the front of the buffer, which comes back from call to call as it was left.
+    pub fn feed(self, run: &[u8], block: &mut [u8]) -> Taken
+        ensures { FedIn (feed_of self run.now block.old) block.new result }
     {
-        Taken {
-            state: self,
-            answer: Answer::Refused(1),
-            body: count,
-            after: 0,
+        if block.len() < 16384 {
+            return Taken {
+                state: self,
+                answer: Err(Refusal::NoRoom),
+                body: 0,
+                after: 0,
+            };
+        }
+        let sound = Sound {
+            state: self.sound(),
+        };
+        match sound.state.stage {
+            LENGTH => sound.take_digits(run, block),
+            BLOCK => sound.take_block(run, 0, block),
+            BODY => sound.take_body(run, 0),
+            _ => sound.done(0, run.len()),
         }
     }
+}
 
-    // The run brought a refusal.
-    fn refuse(k: u8) -> Taken
-        ensures { Fed (step_at_fault k) result }
+// A state within the limits of those that come back from a call; a refusal that it keeps is none but 2 to 10.
+#[derive(Clone, Copy)]
+struct Sound {
+    state: Socket,
+    ghost fits: { Fits state },
+    ghost kept: { 3 < state.stage → 2 ≤ state.refusal },
+}
+
+impl Sound {
+    // Before the end: the run had so many bytes of the body.
+    fn more(self, body: usize) -> Taken
+        ensures { Fed (at_more self.state body) result }
     {
         Taken {
-            state: Socket::faulted(k as usize),
-            answer: Answer::Refused(k),
-            body: 0,
+            state: self.state,
+            answer: Err(Refusal::Cut),
+            body,
             after: 0,
         }
     }
 
     // The answer of a state that has ended.
-    fn ending(self) -> Answer
-        requires { Fits self }
-        ensures { answer_outcome result ≡ end_of self }
+    fn ending(self) -> Result<Request, Refusal>
+        requires { 3 ≤ self.state.stage }
+        ensures { answer_outcome result ≡ end_of self.state }
     {
-        if self.stage == WHOLE {
-            return Answer::Request {
-                block_len: self.len,
-                body_len: self.body,
-                used: self.digits + 1 + self.len + 1 + self.body,
-            };
+        let state = self.state;
+        if state.stage == WHOLE {
+            return Ok(Request {
+                block_len: state.len,
+                body_len: state.body,
+                used: state.digits + 1 + state.len + 1 + state.body,
+            });
         }
-        Answer::Refused(self.refusal as u8)
+        Err(Refusal::try_from(state.refusal as u8).unwrap())
     }
 
     // At the end or after it: so many bytes of the run belong to the body, and so many come after the end.
     fn done(self, body: usize, after: usize) -> Taken
-        requires { Fits self }
-        ensures { Fed (step_at_end self body after) result }
+        requires { 3 ≤ self.state.stage }
+        ensures { Fed (step_at_end self.state body after) result }
     {
-        let answer = self.ending();
         Taken {
-            state: self,
-            answer,
+            state: self.state,
+            answer: self.ending(),
             body,
             after,
         }
@@ -208,103 +207,79 @@ impl Socket {
 
     // The body, from a place of the run on.
     fn take_body(mut self, run: &[u8], at: usize) -> Taken
-        requires { Fits self × (at ≤ length run.now) }
-        ensures { Fed (fed_body self (drop at run.now)) result }
+        requires { at ≤ length run.now }
+        ensures { Fed (fed_body self.state (drop at run.now)) result }
     {
         let have = run.len() - at;
-        let left = self.body - self.seen;
+        let left = self.state.body - self.state.seen;
         if have < left {
-            self.stage = BODY;
-            self.seen += have;
+            self.state.stage = BODY;
+            self.state.seen += have;
             return self.more(have);
         }
-        self.stage = WHOLE;
-        self.seen = self.body;
+        self.state.stage = WHOLE;
+        self.state.seen = self.state.body;
         self.done(left, have - left)
     }
 
     // The comma came: the block is judged where it is stored.
     fn take_comma(mut self, run: &[u8], at: usize, block: &[u8]) -> Taken
-        requires { Fits self × (at ≤ length run.now) × (16384 ≤ length block.now) }
-        ensures { Fed (fed_checked self (drop at run.now) (check_block (take self.len block.now))) result }
+        requires { (at ≤ length run.now) × (16384 ≤ length block.now) }
+        ensures { Fed (fed_checked self.state (drop at run.now) (check_block (take self.state.len block.now))) result }
     {
-        let len = self.len;
-        let c = check_block(&block[..len]);
-        let Checked::Body(n) = c else {
-            return Socket::refuse(c.number());
-        };
-        self.body = n;
-        self.seen = 0;
-        self.take_body(run, at)
+        match check_block(&block[..self.state.len]) {
+            Ok(body) => {
+                self.state.body = body;
+                self.state.seen = 0;
+                self.take_body(run, at)
+            }
+            Err(refusal) => Taken::refused(refusal),
+        }
     }
 
     // The block, from a place of the run on, and the comma behind it.
     fn take_block(mut self, run: &[u8], at: usize, block: &mut [u8]) -> Taken
-        requires { Fits self × (at ≤ length run.now) × (16384 ≤ length block.old) }
-        ensures { FedIn (fed_block self (drop at run.now) block.old) block.new result }
+        requires { (at ≤ length run.now) × (16384 ≤ length block.old) }
+        ensures { FedIn (fed_block self.state (drop at run.now) block.old) block.new result }
     {
         let have = run.len() - at;
-        let stored = self.stored;
-        let left = self.len - stored;
-        let comma = at + least(have, left);
+        let stored = self.state.stored;
+        let left = self.state.len - stored;
+        let comma = at + have.min(left);
         put_any(block, stored, &run[at..comma]);
         if have <= left {
-            self.stage = BLOCK;
-            self.stored = stored + have;
+            self.state.stage = BLOCK;
+            self.state.stored = stored + have;
             return self.more(0);
         }
         if run[comma] != b',' {
-            return Socket::refuse(4);
+            return Taken::refused(Refusal::NoComma);
         }
-        self.stored = self.len;
+        self.state.stored = self.state.len;
         self.take_comma(run, comma + 1, block)
     }
 
-    // The length digits, where their colon has not come, and the block behind them.
-    fn take_head(mut self, run: &[u8], block: &mut [u8]) -> Taken
-        requires { Fits self × (16384 ≤ length block.old) }
-        ensures { FedIn (fed_head self run.now block.old) block.new result }
+    // The length digits, and the block behind their colon.
+    fn take_digits(mut self, run: &[u8], block: &mut [u8]) -> Taken
+        requires { 16384 ≤ length block.old }
+        ensures { FedIn (fed_digits self.state run.now block.old) block.new result }
     {
-        let mut at: usize = 0;
-        if self.stage == LENGTH {
-            let before = self.digits;
-            let d = read_digits(run, before, self.len);
-            let Digits::Read {
-                count,
-                value,
-                colon,
-            } = d
-            else {
-                return Socket::refuse(d.number());
-            };
-            self = Socket::begun(count, value);
-            if !colon {
-                return self.more(0);
+        let before = self.state.digits;
+        match read_digits(run, before, self.state.len) {
+            Ok(
+                Digits {
+                    count,
+                    value,
+                    colon,
+                },
+            ) => {
+                self.state = Socket::begun(count, value);
+                if colon {
+                    return self.take_block(run, count - before + 1, block);
+                }
+                self.more(0)
             }
-            at = count - before + 1;
+            Err(refusal) => Taken::refused(refusal),
         }
-        self.take_block(run, at, block)
-    }
-
-    // What a run makes of the state. The block's bytes go to the front of the buffer, which comes back from call to call as it was left.
-    pub fn feed(mut self, run: &[u8], block: &mut [u8]) -> Taken
-        ensures { FedIn (feed_of self run.now block.old) block.new result }
-    {
-        if block.len() < 16384 {
-            return Taken {
-                state: self,
-                answer: Answer::Refused(21),
-                body: 0,
-                after: 0,
-            };
-        }
-        self = self.sound();
-        if self.stage < BODY {
-            return self.take_head(run, block);
-        }
-        if self.stage == BODY {
-            return self.take_body(run, 0);
-        }
-        self.done(0, run.len())
     }
 }

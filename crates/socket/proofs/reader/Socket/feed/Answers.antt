@@ -1,40 +1,27 @@
 use mathlib.Core.Path.{refl}
 use native.Mathlib.Omega.{arith}
-use Rattle.socket.specs.Socket.{Fits}
-use Rattle.socket.proofs.Steps.{no_room, in_head, in-the-body, after-end, fits_by}
+use Rattle.socket.proofs.Steps.{no_room, in-the-length, in-the-block, in-the-body, after-end}
 use Rattle.socket.proofs.reader.Socket.feed.Goals as goal
-use Rattle.socket.proofs.reader.Socket.feed.Goals.{After-sound-self}
 
 pub returns-then-block-lt16384 : goal.returns-then-block-lt16384
 returns-then-block-lt16384 c =
     rw (no_room c.args.self c.args.run.now c.args.block.now (omega (arith, c.if-block-lt16384.true)))
     (record { step = record { state = refl; answer = refl; body = refl; after = refl }; buffer = refl })
 
--- the state within its limits
-fits : (c : After-sound-self) → Fits c.sound-self.result
-fits c = fits_by c.args.self c.sound-self.result c.sound-self.ensures
+pub returns-in-0 : goal.returns-in-0
+returns-in-0 c =
+    rw (in-the-length c.args.self c.args.run.now c.args.block.now (omega (arith, c.if-block-lt16384.false)) _ c.sound.ensures c.in-0.is) c.take_digits.ensures
 
-pub take_head-requires : goal.take_head-requires
-take_head-requires c = (fits (goal.at.take_head-requires c).After-sound-self, c.if-block-lt16384.false)
+pub returns-in-1 : goal.returns-in-1
+returns-in-1 c =
+    rw (in-the-block c.args.self c.args.run.now c.args.block.now (omega (arith, c.if-block-lt16384.false)) _ c.sound.ensures c.in-1.is) c.take_block.ensures
 
-pub returns-then-self-lt-BODY : goal.returns-then-self-lt-BODY
-returns-then-self-lt-BODY c =
-    rw (in_head c.args.self c.args.run.now c.args.block.now c.if-block-lt16384.false _ c.sound-self.ensures c.if-self-lt-BODY.true)
-    c.take_head.ensures
-
-pub take_body-requires : goal.take_body-requires
-take_body-requires c = (fits (goal.at.take_body-requires c).After-sound-self, omega arith)
-
-pub returns-then-self-eq-BODY : goal.returns-then-self-eq-BODY
-returns-then-self-eq-BODY c =
-    rw (in-the-body c.args.self c.args.run.now c.args.block.now c.if-block-lt16384.false _ c.sound-self.ensures c.if-self-eq-BODY.true)
+pub returns-in-2 : goal.returns-in-2
+returns-in-2 c =
+    rw (in-the-body c.args.self c.args.run.now c.args.block.now (omega (arith, c.if-block-lt16384.false)) _ c.sound.ensures c.in-2.is)
     (record { step = c.take_body.ensures; buffer = refl })
 
-pub done-requires : goal.done-requires
-done-requires c = fits (goal.at.done-requires c).After-sound-self
-
-pub returns : goal.returns
-returns c =
-    let n = c.if-self-eq-BODY.false in
-    rw (after-end c.args.self c.args.run.now c.args.block.now c.if-block-lt16384.false _ c.sound-self.ensures (omega (arith, c.if-self-lt-BODY.false)))
+pub returns-in_default : goal.returns-in_default
+returns-in_default c =
+    rw (after-end c.args.self c.args.run.now c.args.block.now (omega (arith, c.if-block-lt16384.false)) _ c.sound.ensures (omega arith))
     (record { step = c.done.ensures; buffer = refl })
