@@ -10,6 +10,7 @@ use Rattle.mounts.specs.Mounts.{Route}
 use Rattle.lent.specs.Places.{auth_at, settings_at}
 use Rattle.targets.specs.Target.{query_of}
 use Rattle.request.specs.RequestRead.{path_in, part_if}
+use lib.ListN.{take}
 use Rattle.variables.specs.Meaning.{Meaning}
 use Rattle.variables.specs.Variables.{Rows, present, content_rows, path_rows, request_rows, server_rows, http_variable, fixed}
 use Rattle.variables.specs.FixedVariables.{content_variables, path_variables, request_variables, server_variables}
@@ -23,37 +24,39 @@ use Rattle.variables.proofs.FixedVariables.{printed-append, rows_append}
 four : (a b c d : Rows) (w : List ℕ) → printed (present (a ++ (b ++ (c ++ d)))) ++ w ≡ printed (present a) ++ (printed (present b) ++ (printed (present c) ++ (printed (present d) ++ w)))
 four a b c d w = rw (rows_append a (b ++ (c ++ d)), rows_append b (c ++ d), rows_append c d) (simp append_assoc)
 
-module _ (facts site head places path : List ℕ) (k : Sources) where
+module _ (s : Sources) where
   -- what is written behind each group
+  abbrev pub behind_server : List ℕ
+  behind_server = fields_bytes s.head.now (take s.fields.count s.places.now)
+
   abbrev pub behind_request : List ℕ
-  behind_request = printed (server_variables facts site path k) ++ fields_bytes head places k.fields.count
+  behind_request = printed (server_variables s) ++ behind_server
 
   abbrev pub behind_path : List ℕ
-  behind_path = printed (request_variables facts head k) ++ behind_request
+  behind_path = printed (request_variables s) ++ behind_request
 
   abbrev pub behind_content : List ℕ
-  behind_content = printed (path_variables facts head path k) ++ behind_path
+  behind_content = printed (path_variables s) ++ behind_path
 
   abbrev m : Meaning
-  m = meaning_in facts site head places path k
+  m = meaning_in s
 
   abbrev settings : Settings
-  settings = settings_at facts site k.settings
+  settings = settings_at s.facts.now s.site.now s.settings
 
   abbrev route : Route
-  route = route_at (path_in path k.line) k.name
+  route = route_at (path_in s.path.now s.line) s.name
 
   -- the block with another type of the body
   abbrev block_with : ℕ → Option (List ℕ) → List ℕ
   block_with size t = printed (fixed settings route (typed m t) size ++ map http_variable m.fields)
 
-  parts-with : (size : ℕ) (t : Option (List ℕ)) → block_with size t ≡ printed (present (content_rows size (auth_at facts k.settings.auth) t)) ++ behind_content
+  parts-with :
+      (size : ℕ) (t : Option (List ℕ)) → block_with size t ≡ printed (present (content_rows size (auth_at s.facts.now s.settings.auth) t)) ++ behind_content
   unfolding fixed
   parts-with size t =
       printed-append (fixed settings route (typed m t) size) (map http_variable m.fields)
       ∙ four (content_rows size settings.auth t) (path_rows route.path_info (query_of m.target) settings.remote_addr) (request_rows settings.auth m.method m.target) (server_rows route.script_name settings.server_name settings.server_port m.version settings.server_software) (printed (map http_variable m.fields))
 
-  pub block-parts :
-      PlacesKnown facts site head places path k → (size : ℕ)
-      → block_at facts site head places path k size ≡ printed (content_variables facts head k size) ++ behind_content
-  block-parts known size = ap (block_with size) known.fields.type_is ∙ parts-with size (part_if k.fields.typed head k.fields.start k.fields.len)
+  pub block-parts : PlacesKnown s → (size : ℕ) → block_at s size ≡ printed (content_variables s size) ++ behind_content
+  block-parts known size = ap (block_with size) known.fields.type_is ∙ parts-with size (part_if s.head.now s.fields.content_type)

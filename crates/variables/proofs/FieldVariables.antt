@@ -1,27 +1,26 @@
 -- The variables of a request's fields, one field after the other: what is still to be written from a field on.
 -- Assumes nothing.
-use Prim.Native.Nat.{ℕ, suc, ◌+◌, ◌-◌, ◌≤◌, ◌<◌}
+use Prim.Native.Nat.{ℕ, zero, suc, ◌+◌, ◌≤◌, ◌<◌}
 use mathlib.Core.Path.{◌≡◌, refl, sym, ap, ◌∙◌}
 use mathlib.Core.Bool.{Bool, true, false, cond, not, ◌&&◌, ◌||◌}
 use mathlib.Core.List.{List, [], ◌∷◌, ◌++◌, map, append_assoc}
-use native.Mathlib.Nat.{sub-zero}
 use native.Mathlib.Numerals.{add-one}
 use native.Mathlib.Omega.{arith}
 use lib.Dec.{eqb}
-use lib.ListN.{length, take, drop, get_or, set, length-map, drop_of_length-le}
+use lib.ListN.{length, drop, get_or, set, length-map, drop_of_length-le}
 use Rattle.octets.specs.Compare.{same_bytes, lower_of, upper_of}
 use Rattle.octets.specs.Lists.{is_in}
 use Rattle.octets.specs.Copy.{over, Wrote}
 use Rattle.octets.proofs.Lists.{next}
 use Rattle.octets.proofs.Compares.{same_true}
-use Rattle.octets.proofs.Names.{in_either}
 use Rattle.octets.proofs.Cases.{upper-lower, lower-eqb}
 use Rattle.octets.proofs.Copies.{first_then, over-nil}
 use Rattle.headers.specs.Block.{printed}
-use Rattle.http_head.specs.Fields.{Field, field_at, fields_at}
+use Rattle.http_head.specs.Fields.{Field, field_at}
+use Rattle.http_head.specs.declared.fields.Field.{Field as Spans}
 use Rattle.http_head.proofs.Claims.{fields-in-turn}
 use Rattle.request.specs.Named.{lowered}
-use Rattle.variables.specs.Fields.{not_passed, passed, separator, added_by, joined, grouped, grouped_of}
+use Rattle.variables.specs.Fields.{not_passed, passed, separator, added_by, joined, grouped}
 use Rattle.variables.specs.Variables.{variable_byte, http_variable}
 use Rattle.variables.specs.Put.{if_there}
 use Rattle.variables.specs.FieldVariables.{low_name, names_before, low_from, added_at, makes, variable_from, variable_if, fields_bytes}
@@ -59,45 +58,52 @@ name_done d out name at i e h =
       holds = sym (over-nil out (at + i)) ∙ ap (λ (s : List ℕ). over out (at + i) (in_name s)) (sym none_left) ∙ h;
     }
 
--- Names that are not passed.
-
-pub not-passed-either : (n : List ℕ) → is_in n not_passed ≡ is_in n (take 4 not_passed) || is_in n (drop 4 not_passed)
-not-passed-either n = in_either n (take 4 not_passed) (drop 4 not_passed)
-
 -- Names that stand before.
 
-pub seen_next :
-    (x head ps : List ℕ) (j : ℕ) → 0 < j
-    → is_in x (names_before head ps j) ≡ same_bytes x (low_name head ps (j - 1)) || is_in x (names_before head ps (j - 1))
-unfolding is_in names_before
-seen_next x head ps j h =
-    let e : j ≡ suc (j - 1) = omega arith in
-    ap (λ (m : ℕ). is_in x (names_before head ps m)) e
+names_more : (head : List ℕ) (fs : List Spans) (k : ℕ) → names_before head fs (k + 1) ≡ low_name head fs k ∷ names_before head fs k
+unfolding names_before
+names_more head fs k = ap (names_before head fs) (add-one k)
 
-pub seen_end : (x head ps : List ℕ) (j : ℕ) → j ≤ 0 → is_in x (names_before head ps j) ≡ false
+pub seen_none : (x head : List ℕ) (fs : List Spans) → is_in x (names_before head fs 0) ≡ false
 unfolding is_in names_before
-seen_end x head ps j h =
-    let e : j ≡ 0 = omega arith in
-    ap (λ (m : ℕ). is_in x (names_before head ps m)) e
+seen_none x head fs = refl
+
+pub seen_next :
+    (x head : List ℕ) (fs : List Spans) (j : ℕ)
+    → is_in x (names_before head fs (j + 1)) ≡ same_bytes x (low_name head fs j) || is_in x (names_before head fs j)
+unfolding is_in
+seen_next x head fs j = ap (is_in x) (names_more head fs j)
+
+-- a name among some is among more
+pub seen_more : (x head : List ℕ) (fs : List Spans) (j d k : ℕ) → k ≡ j + d → is_in x (names_before head fs j) ≡ true → is_in x (names_before head fs k) ≡ true
+seen_more x head fs j zero k e h =
+    let z : k ≡ j = omega arith in
+    rw z h
+seen_more x head fs j (suc d) k e h =
+    seen_more x head fs (j + 1) d k (omega arith) (seen_next x head fs j ∙ rw h (or-true (same_bytes x (low_name head fs j))))
+  where
+    or-true : (t : Bool) → t || true ≡ true
+    or-true true = refl
+    or-true false = refl
 
 -- What later fields add to a value.
 
 pub added_next :
-    (head ps x : List ℕ) (n j : ℕ) → j < n
-    → added_by (low_from head ps n j) x ≡ added_at head ps x (separator x) j ++ added_by (low_from head ps n (j + 1)) x
+    (head : List ℕ) (fs : List Spans) (x : List ℕ) (j : ℕ) → j < length fs
+    → added_by (low_from head fs j) x ≡ added_at head fs x (separator x) j ++ added_by (low_from head fs (j + 1)) x
 unfolding added_by
-added_next head ps x n j h = ap (λ (fs : List Field). added_by (lowered fs) x) (fields-in-turn.next head ps n j h) ∙ by (same_bytes (low_name head ps j) x)
+added_next head fs x j h = ap (λ (gs : List Field). added_by (lowered gs) x) (fields-in-turn.next head fs j h) ∙ by (same_bytes (low_name head fs j) x)
   where
     by :
         (t : Bool)
-        → cond t (separator x ++ ((field_at head ps j).value ++ added_by (low_from head ps n (j + 1)) x)) (added_by (low_from head ps n (j + 1)) x)
-        ≡ if_there t (separator x ++ (field_at head ps j).value) ++ added_by (low_from head ps n (j + 1)) x
+        → cond t (separator x ++ ((field_at head fs j).value ++ added_by (low_from head fs (j + 1)) x)) (added_by (low_from head fs (j + 1)) x)
+        ≡ if_there t (separator x ++ (field_at head fs j).value) ++ added_by (low_from head fs (j + 1)) x
     by true = sym (append_assoc (separator x) _ _)
     by false = refl
 
-pub added-end : (head ps x : List ℕ) (n j : ℕ) → n ≤ j → added_by (low_from head ps n j) x ≡ []
+pub added-end : (head : List ℕ) (fs : List Spans) (x : List ℕ) (j : ℕ) → length fs ≤ j → added_by (low_from head fs j) x ≡ []
 unfolding added_by
-added-end head ps x n j h = ap (λ (fs : List Field). added_by (lowered fs) x) (fields-in-turn.end head ps n j h)
+added-end head fs x j h = ap (λ (gs : List Field). added_by (lowered gs) x) (fields-in-turn.end head fs j h)
 
 -- Names that are not passed count for nothing.
 
@@ -173,42 +179,37 @@ group-one f fs seen = by (is_in f.name not_passed) (is_in f.name seen) refl
 
 -- The variables from a field on.
 
-abbrev pub variables_from : List ℕ → List ℕ → ℕ → ℕ → List ℕ
-variables_from head ps n k = printed (map http_variable (grouped (names_before head ps k) (passed (low_from head ps n k))))
+abbrev pub variables_from : List ℕ → List Spans → ℕ → List ℕ
+variables_from head fs k = printed (map http_variable (grouped (names_before head fs k) (passed (low_from head fs k))))
 
-pub variables-start : (head ps : List ℕ) (n : ℕ) → fields_bytes head ps n ≡ variables_from head ps n 0
+pub variables-start : (head : List ℕ) (fs : List Spans) → fields_bytes head fs ≡ variables_from head fs 0
 unfolding names_before
-variables-start head ps n = ap (λ (m : ℕ). printed (map http_variable (grouped_of (fields_at head ps 0 m)))) (sym (sub-zero n))
+variables-start head fs = refl
 
-pub variables-end : (head ps : List ℕ) (n k : ℕ) → n ≤ k → variables_from head ps n k ≡ []
+pub variables-end : (head : List ℕ) (fs : List Spans) (k : ℕ) → length fs ≤ k → variables_from head fs k ≡ []
 unfolding passed grouped printed
-variables-end head ps n k h =
-    ap (λ (fs : List Field). printed (map http_variable (grouped (names_before head ps k) (passed (lowered fs))))) (fields-in-turn.end head ps n k h)
-
-names_more : (head ps : List ℕ) (k : ℕ) → names_before head ps (k + 1) ≡ low_name head ps k ∷ names_before head ps k
-unfolding names_before
-names_more head ps k = ap (names_before head ps) (add-one k)
+variables-end head fs k h =
+    ap (λ (gs : List Field). printed (map http_variable (grouped (names_before head fs k) (passed (lowered gs))))) (fields-in-turn.end head fs k h)
 
 pub variables-next :
-    (head ps : List ℕ) (n k : ℕ) → k < n
-    → variables_from head ps n k ≡ variable_if head ps n k ++ variables_from head ps n (k + 1)
-variables-next head ps n k h =
-    ap (λ (fs : List Field). printed (map http_variable (grouped (names_before head ps k) (passed (lowered fs))))) (fields-in-turn.next head ps n k h)
-    ∙ ap (λ (fs : List Field). printed (map http_variable fs)) (group-one f later (names_before head ps k))
-    ∙ by (makes head ps k)
-    ∙ ap (λ (ns : List (List ℕ)). if_there (makes head ps k) (variable_from head ps n k) ++ printed (map http_variable (grouped ns (passed later)))) (sym (names_more head ps k))
+    (head : List ℕ) (fs : List Spans) (k : ℕ) → k < length fs → variables_from head fs k ≡ variable_if head fs k ++ variables_from head fs (k + 1)
+variables-next head fs k h =
+    ap (λ (gs : List Field). printed (map http_variable (grouped (names_before head fs k) (passed (lowered gs))))) (fields-in-turn.next head fs k h)
+    ∙ ap (λ (gs : List Field). printed (map http_variable gs)) (group-one f later (names_before head fs k))
+    ∙ by (makes head fs k)
+    ∙ ap (λ (ns : List (List ℕ)). if_there (makes head fs k) (variable_from head fs k) ++ printed (map http_variable (grouped ns (passed later)))) (sym (names_more head fs k))
   where
     f : Field
-    f = record { name = low_name head ps k; value = (field_at head ps k).value }
+    f = record { name = low_name head fs k; value = (field_at head fs k).value }
 
     later : List Field
-    later = low_from head ps n (k + 1)
+    later = low_from head fs (k + 1)
 
     rest : List Field
-    rest = grouped (low_name head ps k ∷ names_before head ps k) (passed later)
+    rest = grouped (low_name head fs k ∷ names_before head fs k) (passed later)
 
     by :
         (t : Bool)
-        → printed (map http_variable (cond t (joined f later ∷ rest) rest)) ≡ if_there t (variable_from head ps n k) ++ printed (map http_variable rest)
+        → printed (map http_variable (cond t (joined f later ∷ rest) rest)) ≡ if_there t (variable_from head fs k) ++ printed (map http_variable rest)
     by true = print-one (http_variable (joined f later)) (map http_variable rest)
     by false = refl

@@ -4,8 +4,8 @@ pub mod Names
 pub mod Grouping
 pub mod Meanings
 pub mod Sizes
-pub mod Puts
 pub mod FixedVariables
+pub mod Writers
 pub mod FieldVariables
 pub mod Repeats
 pub mod Blocks

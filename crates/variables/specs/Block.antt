@@ -14,24 +14,22 @@ use Rattle.variables.specs.declared.sources.Sources.{Sources}
 abbrev pub route_at : List ℕ → ℕ → Route
 route_at path n = record { script_name = take n path; path_info = drop n path }
 
--- The head of a request, the list of its fields' places and the buffer with its decoded path; and where the values stand.
-module _ (facts site head places path : List ℕ) (k : Sources) where
+module _ (k : Sources) where
   -- what the request means but for its body
   abbrev pub meaning_in : Meaning
-  meaning_in = meaning_of (line_in head k.line) (fields_in head places k.fields) []
+  meaning_in = meaning_of (line_in k.head.now k.line) (fields_in k.head.now k.places.now k.fields) []
 
   -- the block's bytes, for a body of `size` bytes
   abbrev pub block_at : ℕ → List ℕ
   block_at size =
-      let route = route_at (path_in path k.line) k.name in
-      printed (fixed (settings_at facts site k.settings) route meaning_in size ++ map http_variable meaning_in.fields)
+      let route = route_at (path_in k.path.now k.line) k.name in
+      printed (fixed (settings_at k.facts.now k.site.now k.settings) route meaning_in size ++ map http_variable meaning_in.fields)
 
   -- what is known of the places
   pub record PlacesKnown : Type 0 where
-    pub settings : SettingsInside facts site k.settings
-    pub line : LineKnown head path k.line
-    pub fields : FieldsKnown head places k.fields
-    pub numbers : 256 ≤ length places
+    pub settings : SettingsInside k.facts.now k.site.now k.settings
+    pub line : LineKnown k.head.now k.path.now k.line
+    pub fields : FieldsKnown k.head.now k.places.now k.fields
     pub name : k.name ≤ k.line.decoded
 
   -- .. and of the room

@@ -1,72 +1,61 @@
 -- What each of a request's fields adds to the variables, for code that goes from field to field.
 -- Assumes nothing.
-use Rattle.std.specs.Prelude.{ℕ, zero, suc, ◌+◌, ◌*◌, ◌-◌, ◌≤◌, ◌<◌, ◌≡◌, Bool, not, ◌&&◌, List, [], ◌∷◌, ◌++◌, map, length}
+use Rattle.std.specs.Prelude.{ℕ, zero, suc, ◌+◌, Bool, not, ◌&&◌, List, [], ◌∷◌, ◌++◌, map, length, drop}
 use Rattle.octets.specs.Compare.{same_bytes, lower_of}
 use Rattle.octets.specs.Lists.{is_in, different}
 use Rattle.headers.specs.Block.{printed}
-use Rattle.http_head.specs.Fields.{Field, field_at, fields_at, Inside, AllInside}
+use Rattle.http_head.specs.Fields.{Field, field_at, fields_at}
+use Rattle.http_head.specs.declared.fields.Field.{Field as Spans}
 use Rattle.request.specs.Named.{lowered}
 use Rattle.variables.specs.Fields.{not_passed, added_by, grouped_of}
 use Rattle.variables.specs.Variables.{http_name, http_variable}
 use Rattle.variables.specs.Put.{variable, if_there}
 
 -- the name of the field with number k in lower case
-abbrev pub low_name : List ℕ → List ℕ → ℕ → List ℕ
-low_name head ps k = map lower_of (field_at head ps k).name
+abbrev pub low_name : List ℕ → List Spans → ℕ → List ℕ
+low_name head fs k = map lower_of (field_at head fs k).name
 
 -- the lower-case names of the fields before number k, the last first
-unfoldable pub names_before : List ℕ → List ℕ → ℕ → List (List ℕ)
-names_before head ps zero = []
-names_before head ps (suc k) = low_name head ps k ∷ names_before head ps k
+unfoldable pub names_before : List ℕ → List Spans → ℕ → List (List ℕ)
+names_before head fs zero = []
+names_before head fs (suc k) = low_name head fs k ∷ names_before head fs k
 
--- the fields of n from number k on, their names in lower case
-abbrev pub low_from : List ℕ → List ℕ → ℕ → ℕ → List Field
-low_from head ps n k = lowered (fields_at head ps k (n - k))
+-- the fields from number k on, their names in lower case
+abbrev pub low_from : List ℕ → List Spans → ℕ → List Field
+low_from head fs k = lowered (fields_at head (drop k fs))
 
 -- what the field with number j adds to the value of the name x, where s stands between two values
-abbrev pub added_at : List ℕ → List ℕ → List ℕ → List ℕ → ℕ → List ℕ
-added_at head ps x s j = if_there (same_bytes (low_name head ps j) x) (s ++ (field_at head ps j).value)
+abbrev pub added_at : List ℕ → List Spans → List ℕ → List ℕ → ℕ → List ℕ
+added_at head fs x s j = if_there (same_bytes (low_name head fs j) x) (s ++ (field_at head fs j).value)
 
--- what the fields of n after number k add to its value
-abbrev pub added_after : List ℕ → List ℕ → ℕ → ℕ → List ℕ
-added_after head ps n k = added_by (low_from head ps n (k + 1)) (low_name head ps k)
+-- what the fields after number k add to its value
+abbrev pub added_after : List ℕ → List Spans → ℕ → List ℕ
+added_after head fs k = added_by (low_from head fs (k + 1)) (low_name head fs k)
 
--- the value of the field with number k, with what the later ones of n add to it
-abbrev pub value_from : List ℕ → List ℕ → ℕ → ℕ → List ℕ
-value_from head ps n k = (field_at head ps k).value ++ added_after head ps n k
+-- the value of the field with number k, with what the later ones add to it
+abbrev pub value_from : List ℕ → List Spans → ℕ → List ℕ
+value_from head fs k = (field_at head fs k).value ++ added_after head fs k
 
 -- whether the field with number k makes a variable: its name is passed, and stands there for the first time
-abbrev pub makes : List ℕ → List ℕ → ℕ → Bool
-makes head ps k = not (is_in (low_name head ps k) not_passed) && not (is_in (low_name head ps k) (names_before head ps k))
+abbrev pub makes : List ℕ → List Spans → ℕ → Bool
+makes head fs k = not (is_in (low_name head fs k) not_passed) && not (is_in (low_name head fs k) (names_before head fs k))
 
 -- the bytes of the variable that the field with number k makes
-abbrev pub variable_from : List ℕ → List ℕ → ℕ → ℕ → List ℕ
-variable_from head ps n k = variable (http_name (low_name head ps k)) (value_from head ps n k)
+abbrev pub variable_from : List ℕ → List Spans → ℕ → List ℕ
+variable_from head fs k = variable (http_name (low_name head fs k)) (value_from head fs k)
 
 -- .. where no later field has its name
-abbrev pub variable_alone : List ℕ → List ℕ → ℕ → List ℕ
-variable_alone head ps k = variable (http_name (low_name head ps k)) (field_at head ps k).value
+abbrev pub variable_alone : List ℕ → List Spans → ℕ → List ℕ
+variable_alone head fs k = variable (http_name (low_name head fs k)) (field_at head fs k).value
 
 -- .. and none where it makes none
-abbrev pub variable_if : List ℕ → List ℕ → ℕ → ℕ → List ℕ
-variable_if head ps n k = if_there (makes head ps k) (variable_from head ps n k)
+abbrev pub variable_if : List ℕ → List Spans → ℕ → List ℕ
+variable_if head fs k = if_there (makes head fs k) (variable_from head fs k)
 
--- the bytes of the variables of all n fields
-abbrev pub fields_bytes : List ℕ → List ℕ → ℕ → List ℕ
-fields_bytes head ps n = printed (map http_variable (grouped_of (fields_at head ps 0 n)))
+-- the bytes of the variables of all fields
+abbrev pub fields_bytes : List ℕ → List Spans → List ℕ
+fields_bytes head fs = printed (map http_variable (grouped_of (fields_at head fs)))
 
--- what is known of the stored field with number k
-abbrev pub StoredAt : List ℕ → List ℕ → ℕ → Type 0
-StoredAt head ps k = (4 * k + 3 < length ps) × Inside head ps k
-
--- .. of n stored fields
-abbrev pub StoredAll : List ℕ → List ℕ → ℕ → Type 0
-StoredAll head ps n = (4 * n ≤ length ps) × AllInside head ps n
-
--- .. and of the field with number k of n
-abbrev pub FieldKnown : List ℕ → List ℕ → ℕ → ℕ → Type 0
-FieldKnown head ps n k = (k < n) × StoredAll head ps n
-
--- .. where repeat is whether two of the n names are the same
-abbrev pub RepeatKnown : List ℕ → List ℕ → ℕ → Bool → Type 0
-RepeatKnown head ps n repeat = repeat ≡ not (different (names_before head ps n))
+-- whether two names are the same
+abbrev pub repeats : List ℕ → List Spans → Bool
+repeats head fs = not (different (names_before head fs (length fs)))

@@ -2,6 +2,7 @@ pub mod Fields
 pub mod Meaning
 pub mod Variables
 pub mod Put
+pub mod Writer
 pub mod FixedVariables
 pub mod FieldVariables
 pub mod Block

@@ -1,82 +1,56 @@
-// The variables of a request's fields, by the places of the fields in a lent list.
-ghost use Rattle.std.specs.Prelude.{◌≡◌, not, [], ◌∷◌, ◌++◌, map, ◌+◌, ◌*◌, ◌≤◌, ◌<◌, length, take, drop};
+// The variables of a request's fields.
+ghost use Rattle.std.specs.Prelude.{◌≡◌, [], ◌∷◌, ◌++◌, map, ◌+◌, ◌≤◌, ◌<◌, length};
 ghost use Rattle.octets.specs.Compare.{lower_of};
-ghost use Rattle.octets.specs.Lists.{is_in, different};
+ghost use Rattle.octets.specs.Lists.{is_in};
 ghost use Rattle.octets.specs.Copy.{Wrote};
 ghost use Rattle.variables.specs.Fields.{not_passed, separator};
 ghost use Rattle.variables.specs.Variables.{variable_byte, http_name};
-ghost use Rattle.variables.specs.FieldVariables.{low_name, names_before, added_at, added_after, variable_from, variable_alone, variable_if, fields_bytes, StoredAt, StoredAll, FieldKnown, RepeatKnown};
+ghost use Rattle.variables.specs.FieldVariables.{low_name, names_before, added_at, added_after, variable_from, variable_alone, variable_if, fields_bytes, repeats};
+ghost use Rattle.variables.specs.Writer.{Fits, Appended};
 
-use crate::put::put_value;
-use bulk::copy::put_any;
+use crate::writer::Writer;
 use octets::compare::{same_letters, upper};
-use octets::copy::put;
-use request::stored::{field_name, field_value, has_name};
+use request::stored::Fields;
 
-// Whether a name is one of the first four that are not passed.
-fn not_passed_first(name: &[u8]) -> bool
-    ensures { result ≡ is_in (map lower_of name.now) (take 4 not_passed) }
-{
-    if same_letters(name, b"authorization") {
-        return true;
-    }
-    if same_letters(name, b"proxy-authorization") {
-        return true;
-    }
-    if same_letters(name, b"proxy") {
-        return true;
-    }
-    same_letters(name, b"connection")
-}
-
-// Whether a name is one of the others that are not passed.
-fn not_passed_last(name: &[u8]) -> bool
-    ensures { result ≡ is_in (map lower_of name.now) (drop 4 not_passed) }
-{
-    if same_letters(name, b"keep-alive") {
-        return true;
-    }
-    if same_letters(name, b"content-length") {
-        return true;
-    }
-    same_letters(name, b"content-type")
-}
+// The names of the fields that are not passed.
+const NOT_PASSED: [&[u8]; 7] = [
+    b"authorization",
+    b"proxy-authorization",
+    b"proxy",
+    b"connection",
+    b"keep-alive",
+    b"content-length",
+    b"content-type",
+];
 
 // Whether fields of a name are not passed.
 fn not_passed(name: &[u8]) -> bool
     ensures { result ≡ is_in (map lower_of name.now) not_passed }
 {
-    if not_passed_first(name) {
-        return true;
-    }
-    not_passed_last(name)
+    NOT_PASSED.iter().any(|n| same_letters(name, n))
 }
 
 // Whether a field before number k has its name.
-fn seen_before(head: &[u8], places: &[u64], k: usize, n: usize) -> bool
-    requires { FieldKnown head.now places.now n k }
-    ensures { result ≡ is_in (low_name head.now places.now k) (names_before head.now places.now k) }
+fn seen_before(fields: Fields, k: usize) -> bool
+    requires { k < length fields.places.now }
+    ensures { result ≡ is_in (low_name fields.entry.head.now fields.entry.places.now k)
+        (names_before fields.entry.head.now fields.entry.places.now k) }
 {
-    let name = field_name(head, places, k);
-    let mut j = k;
-    while 0 < j {
-        j -= 1;
-        if has_name(head, places, j, name) {
+    let name = fields.name(k);
+    for j in 0..k {
+        if fields.has_name(j, name) {
             return true;
         }
     }
     false
 }
 
-// Whether two of n fields have the same name, letter case aside. Most requests have no name twice.
-pub fn names_repeat(head: &[u8], places: &[u64], n: usize) -> bool
-    requires { StoredAll head.now places.now n }
-    ensures { result ≡ not (different (names_before head.now places.now n)) }
+// Whether two fields have the same name, letter case aside. Most requests have no name twice.
+pub fn names_repeat(fields: Fields) -> bool
+    ensures { result ≡ repeats fields.entry.head.now fields.entry.places.now }
 {
-    let mut k = n;
-    while 0 < k {
-        k -= 1;
-        if seen_before(head, places, k, n) {
+    for k in 0..fields.places.len() {
+        if seen_before(fields, k) {
             return true;
         }
     }
@@ -87,34 +61,28 @@ pub fn names_repeat(head: &[u8], places: &[u64], n: usize) -> bool
 fn variable_byte(b: u8) -> u8
     ensures { result ≡ variable_byte (lower_of b) }
 {
-    if b == b'-' {
-        return b'_';
-    }
-    upper(b)
+    if b == b'-' { b'_' } else { upper(b) }
 }
 
-// Writes a field's name as its variable has it.
+// Writes a field's name as its variable has it, and gives the place after it.
 fn put_name(out: &mut [u8], at: usize, name: &[u8]) -> usize
     requires { at + length name.now ≤ length out.old }
     ensures { Wrote out.old at (map variable_byte (map lower_of name.now)) out.new result }
 {
-    let mut i: usize = 0;
-    while i < name.len() {
-        let b = variable_byte(name[i]);
-        out[at + i] = b;
-        i += 1;
+    for i in 0..name.len() {
+        out[at + i] = variable_byte(name[i]);
     }
-    at + i
+    at + name.len()
 }
 
 // Writes the name of a field's variable, and a NUL.
-fn put_http_name(out: &mut [u8], at: usize, name: &[u8]) -> usize
-    requires { at + length name.now + 6 ≤ length out.old }
-    ensures { Wrote out.old at (http_name (map lower_of name.now) ++ 0 ∷ []) out.new result }
+fn put_http_name(name: &[u8], w: &mut Writer)
+    requires { w.old.at + length name.now + 6 ≤ length w.old.out.now }
+    ensures { Appended w.old w.new (http_name (map lower_of name.now) ++ 0 ∷ []) }
 {
-    let n = put(out, at, b"HTTP_");
-    let m = put_name(out, n, name);
-    put(out, m, b"\0")
+    w.text(b"HTTP_");
+    w.at = put_name(w.out, w.at, name);
+    w.text(b"\0");
 }
 
 // What stands between two values of a name: a worker splits cookies at semicolons, other values at commas.
@@ -122,119 +90,79 @@ fn separator(name: &[u8]) -> [u8; 2]
     ensures { result ≡ separator (map lower_of name.now) }
 {
     if same_letters(name, b"cookie") {
-        return *b"; ";
+        *b"; "
+    } else {
+        *b", "
     }
-    *b", "
 }
 
 // Writes what the field with number j adds to the value of a name: what stands between two values, and its own.
-fn put_added(
-    head: &[u8],
-    places: &[u64],
-    j: usize,
-    name: &[u8],
-    between: &[u8],
-    out: &mut [u8],
-    at: usize,
-) -> usize
-    requires { StoredAt head.now places.now j × (at + length (added_at head.now places.now (map lower_of name.now) between.now j) ≤ length out.old) }
-    ensures { Wrote out.old at
-        (added_at head.now places.now (map lower_of name.now) between.now j) out.new result }
+fn put_added(fields: Fields, j: usize, name: &[u8], between: &[u8], w: &mut Writer)
+    requires { (j < length fields.places.now)
+        × Fits w.old (added_at fields.head.now fields.places.now (map lower_of name.now) between.now j) }
+    ensures { Appended w.old w.new (added_at fields.entry.head.now fields.entry.places.now (map lower_of name.now) between.now j) }
 {
-    if !has_name(head, places, j, name) {
-        return at;
+    if fields.has_name(j, name) {
+        w.text(between);
+        w.bytes(fields.value(j));
     }
-    let n = put(out, at, between);
-    let value = field_value(head, places, j);
-    put_any(out, n, value)
 }
 
 // Writes what the fields after number k add to its value.
-fn put_later(head: &[u8], places: &[u64], k: usize, n: usize, out: &mut [u8], at: usize) -> usize
-    requires { FieldKnown head.now places.now n k × (at + length (added_after head.now places.now n k) ≤ length out.old) }
-    ensures { Wrote out.old at (added_after head.now places.now n k) out.new result }
+fn put_later(fields: Fields, k: usize, w: &mut Writer)
+    requires { (k < length fields.places.now) × Fits w.old (added_after fields.head.now fields.places.now k) }
+    ensures { Appended w.old w.new (added_after fields.entry.head.now fields.entry.places.now k) }
 {
-    let name = field_name(head, places, k);
+    let name = fields.name(k);
     let between = separator(name);
-    let mut p = at;
-    let mut j = k + 1;
-    while j < n {
-        p = put_added(head, places, j, name, &between, out, p);
-        j += 1;
+    for j in k + 1..fields.places.len() {
+        put_added(fields, j, name, &between, w);
     }
-    p
 }
 
 // Writes the variable that the field with number k makes: its value is joined with those of the later ones of its name.
-fn put_field(head: &[u8], places: &[u64], k: usize, n: usize, out: &mut [u8], at: usize) -> usize
-    requires { FieldKnown head.now places.now n k × (at + length (variable_from head.now places.now n k) ≤ length out.old) }
-    ensures { Wrote out.old at (variable_from head.now places.now n k) out.new result }
+fn put_field(fields: Fields, k: usize, w: &mut Writer)
+    requires { (k < length fields.places.now) × Fits w.old (variable_from fields.head.now fields.places.now k) }
+    ensures { Appended w.old w.new (variable_from fields.entry.head.now fields.entry.places.now k) }
 {
-    let name = field_name(head, places, k);
-    let a = put_http_name(out, at, name);
-    let value = field_value(head, places, k);
-    let b = put_any(out, a, value);
-    let c = put_later(head, places, k, n, out, b);
-    put(out, c, b"\0")
+    put_http_name(fields.name(k), w);
+    w.bytes(fields.value(k));
+    put_later(fields, k, w);
+    w.text(b"\0");
 }
 
 // Writes the variable of the field with number k where no other field has its name.
-fn put_alone(head: &[u8], places: &[u64], k: usize, out: &mut [u8], at: usize) -> usize
-    requires { StoredAt head.now places.now k × (at + length (variable_alone head.now places.now k) ≤ length out.old) }
-    ensures { Wrote out.old at (variable_alone head.now places.now k) out.new result }
+fn put_alone(fields: Fields, k: usize, w: &mut Writer)
+    requires { (k < length fields.places.now) × Fits w.old (variable_alone fields.head.now fields.places.now k) }
+    ensures { Appended w.old w.new (variable_alone fields.entry.head.now fields.entry.places.now k) }
 {
-    let name = field_name(head, places, k);
-    let m = put_http_name(out, at, name);
-    let value = field_value(head, places, k);
-    put_value(out, m, value)
+    put_http_name(fields.name(k), w);
+    w.value(fields.value(k));
 }
 
-// Writes the variable of the field with number k, if it makes one; repeat is whether two of the n names are the same.
-fn put_new(
-    head: &[u8],
-    places: &[u64],
-    k: usize,
-    n: usize,
-    repeat: bool,
-    out: &mut [u8],
-    at: usize,
-) -> usize
-    requires { FieldKnown head.now places.now n k × RepeatKnown head.now places.now n repeat
-        × (at + length (variable_if head.now places.now n k) ≤ length out.old) }
-    ensures { Wrote out.old at (variable_if head.now places.now n k) out.new result }
+// Writes the variable of the field with number k, if it makes one; repeat is whether two of the names are the same.
+fn put_new(fields: Fields, k: usize, repeat: bool, w: &mut Writer)
+    requires { (k < length fields.places.now) × (repeat ≡ repeats fields.head.now fields.places.now)
+        × Fits w.old (variable_if fields.head.now fields.places.now k) }
+    ensures { Appended w.old w.new (variable_if fields.entry.head.now fields.entry.places.now k) }
 {
-    let name = field_name(head, places, k);
-    if not_passed(name) {
-        return at;
+    if not_passed(fields.name(k)) {
+        return;
     }
     if !repeat {
-        return put_alone(head, places, k, out, at);
+        put_alone(fields, k, w);
+    } else if !seen_before(fields, k) {
+        put_field(fields, k, w);
     }
-    if seen_before(head, places, k, n) {
-        return at;
-    }
-    put_field(head, places, k, n, out, at)
 }
 
 // Writes one variable for each name of the passed fields, by first appearance.
 // Where repeat is false no name is there twice, and each field is written with no further comparison.
-pub fn put_fields(
-    head: &[u8],
-    places: &[u64],
-    n: usize,
-    repeat: bool,
-    out: &mut [u8],
-    at: usize,
-) -> usize
-    requires { StoredAll head.now places.now n × RepeatKnown head.now places.now n repeat
-        × (at + length (fields_bytes head.now places.now n) ≤ length out.old) }
-    ensures { Wrote out.old at (fields_bytes head.now places.now n) out.new result }
+pub fn put_fields(fields: Fields, repeat: bool, w: &mut Writer)
+    requires { (repeat ≡ repeats fields.head.now fields.places.now) × Fits w.old (fields_bytes fields.head.now fields.places.now) }
+    ensures { Appended w.old w.new (fields_bytes fields.entry.head.now fields.entry.places.now) }
 {
-    let mut p = at;
-    let mut k: usize = 0;
-    while k < n {
-        p = put_new(head, places, k, n, repeat, out, p);
-        k += 1;
+    for k in 0..fields.places.len() {
+        put_new(fields, k, repeat, w);
     }
-    p
 }

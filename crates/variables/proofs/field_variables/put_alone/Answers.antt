@@ -1,42 +1,20 @@
-use Prim.Native.Nat.{◌+◌, ◌≤◌}
 use mathlib.Core.List.{[], ◌∷◌, ◌++◌}
-use native.Mathlib.Omega.{arith}
-use lib.ListN.{length, length-append, length-map}
-use Rattle.octets.specs.Copy.{Wrote}
-use Rattle.octets.proofs.Copies.{and_then}
-use Rattle.http_head.specs.Fields.{field_at}
 use Rattle.variables.specs.Variables.{http_name}
 use Rattle.variables.specs.FieldVariables.{low_name}
+use Rattle.variables.specs.Writer.{Appended}
+use Rattle.variables.proofs.Writers.{and_then, room-left}
 use Rattle.variables.proofs.field_variables.put_alone.Goals as goal
-use Rattle.variables.proofs.field_variables.put_alone.Goals.{After-slice_known-2-1, Start}
-
-room :
-    (c : Start)
-    → (let a = c.args in
-    let f = field_at a.head.now a.places.now a.k in
-    a.at + (length f.name + 6) + (length f.value + 1) ≤ length a.out.now)
-room c = omega (arith, simp (length-append, length-map) at c.requires.1)
+use Rattle.variables.proofs.field_variables.put_alone.Goals.{After-put_http_name}
 
 -- the name and its NUL
 named :
-    (c : After-slice_known-2-1)
-    → (let a = c.args in
-    Wrote a.out.now a.at (http_name (low_name a.head.now a.places.now a.k) ++ 0 ∷ []) c.put_http_name-m.new.out c.put_http_name-m.result)
-named c = rw c.field_name-name.ensures.0 at c.put_http_name-m.ensures
+    (c : After-put_http_name)
+    → (let f = c.args.fields in
+    Appended c.args.w.now c.put_http_name.new.w (http_name (low_name f.head.now f.places.now c.args.k) ++ 0 ∷ []))
+named c = rw c.name.ensures.0 at c.put_http_name.ensures
 
-pub field_name-name-requires : goal.field_name-name-requires
-field_name-name-requires c = c.requires.0
-
-pub put_http_name-m-requires : goal.put_http_name-m-requires
-put_http_name-m-requires c = rw c.field_name-name.ensures.0 (omega (arith, room (goal.at.put_http_name-m-requires c).Start))
-
-pub field_value-value-requires : goal.field_value-value-requires
-field_value-value-requires c = c.requires.0
-
-pub put_value-requires : goal.put_value-requires
-put_value-requires c = rw c.field_value-value.ensures.0 (omega (arith, room (goal.at.put_value-requires c).Start, simp (length-append, length-map) at (named (goal.at.put_value-requires c).After-slice_known-2-1).ends))
+pub value-requires-2 : goal.value-requires-2
+value-requires-2 c = rw c.value.ensures.0 (room-left _ _ c.requires.1 (named (goal.at.value-requires-2 c).After-put_http_name))
 
 pub returns : goal.returns
-returns c =
-    and_then (named (goal.at.returns c).After-slice_known-2-1) (simp (length-append, length-map) (omega (arith, room (goal.at.returns c).Start))) _ _ _
-    (rw c.field_value-value.ensures.0 at c.put_value.ensures)
+returns c = and_then _ _ (named (goal.at.returns c).After-put_http_name) (rw c.value.ensures.0 at c.value-2.ensures)

@@ -1,72 +1,51 @@
-use Prim.Native.Nat.{ℕ, ◌+◌, ◌≤◌}
-use mathlib.Core.Path.{◌≡◌, ◌∙◌}
-use mathlib.Core.List.{List, [], ◌∷◌, ◌++◌}
-use native.Mathlib.Omega.{arith}
-use lib.ListN.{length, length-append, length-map}
-use Rattle.octets.specs.Copy.{Wrote}
-use Rattle.octets.proofs.Copies.{and_then}
+use mathlib.Core.Path.{refl, ap}
+use mathlib.Core.List.{List, [], ◌∷◌, ◌++◌, append_assoc}
+use Prim.Native.Nat.{ℕ}
 use Rattle.http_head.specs.Fields.{field_at}
 use Rattle.variables.specs.Variables.{http_name}
-use Rattle.variables.specs.FieldVariables.{low_name, added_after}
+use Rattle.variables.specs.FieldVariables.{low_name, added_after, variable_from}
+use Rattle.variables.specs.declared.writer.Writer.{Writer}
+use Rattle.variables.proofs.Writers.{Left, left-all, left-rest, left-room, left-more, left-last}
 use Rattle.variables.proofs.field_variables.put_field.Goals as goal
-use Rattle.variables.proofs.field_variables.put_field.Goals.{Start}
+use Rattle.variables.proofs.field_variables.put_field.Goals.{Start, After-put_http_name, After-bytes}
 
-room :
-    (s : Start)
-    → (let a = s.args in
-    let f = field_at a.head.now a.places.now a.k in
-    a.at + (length f.name + 6) + (length f.value + length (added_after a.head.now a.places.now a.n a.k) + 1) ≤ length a.out.now)
-room s = omega (arith, simp (length-append, length-map) at s.requires.1)
+-- v is left for the writer w
+abbrev Rest : Start → Writer → List ℕ → Type 0
+Rest s w v = Left s.args.w.now (variable_from s.args.fields.head.now s.args.fields.places.now s.args.k) w v
+
+abbrev later : Start → List ℕ
+later s = added_after s.args.fields.head.now s.args.fields.places.now s.args.k
+
+abbrev value : Start → List ℕ
+value s = (field_at s.args.fields.head.now s.args.fields.places.now s.args.k).value
+
+start : (s : Start) → Rest s s.args.w.now (variable_from s.args.fields.head.now s.args.fields.places.now s.args.k)
+start s = left-all _ _ s.requires.1
 
 -- the name and its NUL are written
-abbrev Named : Start → List ℕ → ℕ → Type 0
-Named s o p = Wrote s.args.out.now s.args.at (http_name (low_name s.args.head.now s.args.places.now s.args.k) ++ 0 ∷ []) o p
+named :
+    (c : After-put_http_name)
+    → (let s = (goal.at-After-put_http_name c).Start in
+    Rest s c.put_http_name.new.w (value s ++ (later s ++ 0 ∷ [])))
+named c =
+    let s = (goal.at-After-put_http_name c).Start in
+    let name = http_name (low_name c.args.fields.head.now c.args.fields.places.now c.args.k) ++ 0 ∷ [] in
+    let parts = ap (λ (v : List ℕ). name ++ v) (append_assoc (value s) (later s) (0 ∷ [])) in
+    left-more _ parts (start s) (rw c.name.ensures.0 at c.put_http_name.ensures)
 
-named-ends : (s : Start) (o : List ℕ) (p : ℕ) → Named s o p → p ≡ s.args.at + (length (field_at s.args.head.now s.args.places.now s.args.k).name + 6)
-named-ends s o p n = n.ends ∙ simp (length-append, length-map) (omega arith)
+-- .. and the value
+valued : (c : After-bytes) → (let s = (goal.at-After-bytes c).Start in Rest s c.bytes.new.self (later s ++ 0 ∷ []))
+valued c = left-more _ refl (named (goal.at-After-bytes c).After-put_http_name) (rw c.value.ensures.0 at c.bytes.ensures)
 
-pub field_name-name-requires : goal.field_name-name-requires
-field_name-name-requires c =
-    let p = c.requires.0 in
-    (omega (arith, p.0, p.1.0), p.1.1 _ p.0)
+pub bytes-requires : goal.bytes-requires
+bytes-requires c =
+    rw c.value.ensures.0 (left-room (value (goal.at.bytes-requires c).Start) _ refl (named (goal.at.bytes-requires c).After-put_http_name))
 
-pub put_http_name-a-requires : goal.put_http_name-a-requires
-put_http_name-a-requires c = rw c.field_name-name.ensures.0 (omega (arith, room (goal.at.put_http_name-a-requires c).Start))
+pub put_later-requires : goal.put_later-requires
+put_later-requires c = (c.requires.0, left-room (later (goal.at.put_later-requires c).Start) _ refl (valued (goal.at.put_later-requires c).After-bytes))
 
-pub field_value-value-requires : goal.field_value-value-requires
-field_value-value-requires c =
-    let p = c.requires.0 in
-    (omega (arith, p.0, p.1.0), p.1.1 _ p.0)
-
-pub put_any-b-requires : goal.put_any-b-requires
-put_any-b-requires c =
-    let s = (goal.at.put_any-b-requires c).Start in
-    let named : Named s c.put_http_name-a.new.out c.put_http_name-a.result = rw c.field_name-name.ensures.0 at c.put_http_name-a.ensures in
-    rw c.field_value-value.ensures.0 (omega (arith, room s, named-ends s _ _ named))
-
-pub put_later-c-requires : goal.put_later-c-requires
-put_later-c-requires c =
-    let s = (goal.at.put_later-c-requires c).Start in
-    let named : Named s c.put_http_name-a.new.out c.put_http_name-a.result = rw c.field_name-name.ensures.0 at c.put_http_name-a.ensures in
-    let valued : Wrote c.put_http_name-a.new.out c.put_http_name-a.result (field_at c.args.head.now c.args.places.now c.args.k).value c.put_any-b.new.out c.put_any-b.result =
-    rw c.field_value-value.ensures.0 at c.put_any-b.ensures in
-    (c.requires.0, omega (arith, room s, named-ends s _ _ named, valued.ends))
-
-pub put-requires : goal.put-requires
-put-requires c =
-    let s = (goal.at.put-requires c).Start in
-    let named : Named s c.put_http_name-a.new.out c.put_http_name-a.result = rw c.field_name-name.ensures.0 at c.put_http_name-a.ensures in
-    let valued : Wrote c.put_http_name-a.new.out c.put_http_name-a.result (field_at c.args.head.now c.args.places.now c.args.k).value c.put_any-b.new.out c.put_any-b.result =
-    rw c.field_value-value.ensures.0 at c.put_any-b.ensures in
-    omega (arith, room s, named-ends s _ _ named, valued.ends, c.put_later-c.ensures.ends)
+pub text-requires : goal.text-requires
+text-requires c = left-rest (left-more (0 ∷ []) refl (valued (goal.at.text-requires c).After-bytes) c.put_later.ensures)
 
 pub returns : goal.returns
-returns c =
-    let s = (goal.at.returns c).Start in
-    let named : Named s c.put_http_name-a.new.out c.put_http_name-a.result = rw c.field_name-name.ensures.0 at c.put_http_name-a.ensures in
-    let valued : Wrote c.put_http_name-a.new.out c.put_http_name-a.result (field_at c.args.head.now c.args.places.now c.args.k).value c.put_any-b.new.out c.put_any-b.result =
-    rw c.field_value-value.ensures.0 at c.put_any-b.ensures in
-    let r = room s in
-    let e = named-ends s _ _ named in
-    and_then named (simp (length-append, length-map) (omega (arith, r))) _ _ _
-    (and_then (and_then valued (omega (arith, r, e)) _ _ _ c.put_later-c.ensures) (simp length-append (omega (arith, r, e))) _ _ _ c.put.ensures)
+returns c = left-last (left-more (0 ∷ []) refl (valued (goal.at.returns c).After-bytes) c.put_later.ensures) c.text.ensures

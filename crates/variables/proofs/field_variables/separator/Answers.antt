@@ -9,6 +9,6 @@ pub returns-then-same_letters : goal.returns-then-same_letters
 unfolding lower_of separator
 returns-then-same_letters c = sym (ap (λ (t : Bool). cond t (bytes "; ") (bytes ", ")) (sym c.same_letters.ensures ∙ c.if-same_letters.true))
 
-pub returns : goal.returns
+pub returns-else-same_letters : goal.returns-else-same_letters
 unfolding lower_of separator
-returns c = sym (ap (λ (t : Bool). cond t (bytes "; ") (bytes ", ")) (sym c.same_letters.ensures ∙ c.if-same_letters.false))
+returns-else-same_letters c = sym (ap (λ (t : Bool). cond t (bytes "; ") (bytes ", ")) (sym c.same_letters.ensures ∙ c.if-same_letters.false))

@@ -1,15 +1,9 @@
 use mathlib.Core.Path.{refl}
 use native.Mathlib.Omega.{arith}
-use lib.ListN.{length-take}
-use Rattle.variables.proofs.FixedVariables.{query-none, query-some}
+use Rattle.variables.proofs.FixedVariables.{query-part}
 use Rattle.variables.proofs.fixed_variables.query.Goals as goal
-
-pub returns-then-start-end : goal.returns-then-start-end
-returns-then-start-end c =
-    let a = c.args.line in
-    (query-none c.args.head.now a.target a.len a.path c.requires.0 c.requires.1 c.requires.2 c.if-start-end.true _ (simp length-take (omega arith)), record { memory = refl; offset = omega arith })
 
 pub returns : goal.returns
 returns c =
-    let a = c.args.line in
-    (query-some c.args.head.now a.target a.len a.path c.requires.0 c.requires.1 c.requires.2 c.if-start-end.false, record { memory = refl; offset = omega arith })
+    let l = c.args.line in
+    (query-part c.args.head.now l.target.start l.target.len l.path c.requires.0 c.requires.1 c.requires.2 c.min.result c.min.ensures, record { memory = refl; offset = omega (arith, c.min.ensures, c.requires.1) })
