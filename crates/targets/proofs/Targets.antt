@@ -1,16 +1,16 @@
 -- Laws of targets: what the tests of each step say.
 -- Assumes nothing.
-use Prim.Native.Nat.{ℕ, min, ◌+◌, ◌-◌, ◌≤◌, ◌<◌}
+use Prim.Native.Nat.{ℕ, min, ◌+◌, ◌≤◌, ◌<◌}
 use mathlib.Core.Path.{◌≡◌, refl, sym, ap, ◌∙◌}
-use mathlib.Core.Bool.{Bool, true, false, cond, not, ◌&&◌}
+use mathlib.Core.Bool.{Bool, true, false, cond, ◌&&◌}
 use mathlib.Core.List.{List}
 use native.Mathlib.Nat.{zero-add}
 use native.Mathlib.Omega.{arith}
-use lib.Dec.{eqb, leb, ltb}
-use lib.ListN.{length, take, drop, get_or, length-drop}
-use lib.Seq.{take_all, drop-drop, length-take-le}
+use lib.Dec.{eqb, leb}
+use lib.ListN.{length, take, get_or}
+use lib.Seq.{length-take-le}
 use Rattle.std.proofs.Common.{Result, Ok, Err}
-use borrow.Author.Tests.{eq-eqb, ne_eqb, le-leb, lt-leb, eqb-true, leb-true, leb-false, ltb-true, ltb-false}
+use borrow.Author.Tests.{eq-eqb, ne_eqb, le-leb, lt-leb, eqb-true, leb-true}
 use Rattle.octets.specs.Kinds.{is_target}
 use Rattle.octets.specs.Scan.{run, other, all_of, count}
 use Rattle.octets.specs.Copy.{over}
@@ -18,71 +18,13 @@ use Rattle.octets.specs.declared.refusal.Refusal.{Refusal}
 use Rattle.octets.specs.declared.refusal.Refusal.TheVariants as Because
 use Rattle.octets.proofs.Bools.{and_left, and_right, and-false}
 use Rattle.octets.proofs.Scans.{run-le, all_take, all-same-run}
-use Rattle.octets.proofs.Parting.{part-found, part_none}
 use Rattle.octets.proofs.Copies.{over-nil}
 use Rattle.targets.specs.Escape.{escapes_right, decoded}
-use Rattle.targets.specs.Target.{
-  path_of,
-  raw_right,
-  is_dots,
-  no_dots,
-  segments_right,
-  decoded_right,
-  target_of,
-  written,
-  TargetRead,
-  raw_of,
-  PathRight,
-  PathRead,
-}
+use Rattle.targets.specs.Target.{path_of, raw_right, decoded_right, target_of, written, TargetRead, raw_of, PathRight, PathRead}
 use Rattle.targets.specs.Claims.{RawSays}
 use Rattle.targets.specs.declared.target.Raw.{Raw}
 use Rattle.targets.specs.declared.target.TargetPlace.{TargetPlace}
 use Rattle.targets.proofs.Escapes.{path-escapes}
-
--- Segments, one at a time.
-
--- no segment from i on is one dot or two; past the end there is none
-abbrev pub segments_from : ℕ → List ℕ → Bool
-segments_from i p = cond (leb i (length p)) (segments_right (drop i p)) true
-
-segment-first : (q : List ℕ) (n : ℕ) → n ≡ run (other 47) q → segments_right q ≡ not (is_dots (take n q)) && segments_from (n + 1) q
-unfolding segments_right no_dots
-segment-first q n e = by (ltb n (length q)) refl
-  where
-    by : (t : Bool) → ltb n (length q) ≡ t → segments_right q ≡ not (is_dots (take n q)) && segments_from (n + 1) q
-    by true f =
-        let h : n + 1 ≤ length q = omega (arith, ltb-true n (length q) f) in
-        let w : run (other 47) q < length q = omega arith in
-        rw (le-leb (n + 1) (length q) h, e, part-found 47 q w)
-    by false f =
-        let h : length q < n + 1 = omega (arith, ltb-false n (length q) f) in
-        let w : length q ≤ run (other 47) q = omega arith in
-        let v : length q ≤ n = omega arith in
-        rw (lt-leb (n + 1) (length q) h, part_none 47 q w, take_all n q v)
-
-leb-same : (a b c d : ℕ) → (a ≤ b → c ≤ d) → (b < a → d < c) → leb a b ≡ leb c d
-leb-same a b c d f g = by (leb a b) refl
-  where
-    by : (t : Bool) → leb a b ≡ t → t ≡ leb c d
-    by true e = sym (le-leb c d (f (leb-true a b e)))
-    by false e = sym (lt-leb c d (g (leb-false a b e)))
-
-pub segments-start : (p : List ℕ) → segments_right p ≡ segments_from 0 p
-segments-start p = rw (le-leb 0 (length p) (omega arith))
-
-pub segments-next :
-    (p : List ℕ) (i n : ℕ) → i ≤ length p → n ≡ i + run (other 47) (drop i p)
-    → segments_from i p ≡ not (is_dots (take (n - i) (drop i p))) && segments_from (n + 1) p
-segments-next p i n h e =
-    let d : i + (n - i + 1) ≡ n + 1 = omega arith in
-    let l : leb (n - i + 1) (length (drop i p)) ≡ leb (n + 1) (length p) =
-    leb-same (n - i + 1) (length (drop i p)) (n + 1) (length p) (λ x. omega (arith, length-drop i p)) (λ x. omega (arith, length-drop i p)) in
-    let q : drop (n - i + 1) (drop i p) ≡ drop (n + 1) p = drop-drop (n - i + 1) i p ∙ ap (λ (k : ℕ). drop k p) d in
-    rw (le-leb i (length p) h) (segment-first (drop i p) (n - i) (omega arith) ∙ rw (l, q))
-
-pub segments-end : (p : List ℕ) (i : ℕ) → length p < i → segments_from i p ≡ true
-segments-end p i h = rw (lt-leb i (length p) h)
 
 -- The path.
 

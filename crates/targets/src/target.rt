@@ -72,25 +72,15 @@ fn is_dots(s: &[u8]) -> bool
     same(s, b".") || same(s, b"..")
 }
 
-// Whether no segment of the path is one dot or two. A turn goes on by a segment, so the loop is a `while`.
+// Whether no segment of the path is one dot or two.
 fn segments(p: &[u8]) -> bool
-    requires { length p.now ≤ 4096 }
     ensures { result ≡ segments_right p.now }
 {
-    let mut i: usize = 0;
-    while i <= p.len() {
-        let end = find(p, i, b'/');
-        if is_dots(&p[i..end]) {
-            return false;
-        }
-        i = end + 1;
-    }
-    true
+    p.split(|&b| b == b'/').all(|s| !is_dots(s))
 }
 
 // Judges the decoded path d of a path with so many slashes.
 fn decoded_path(d: &[u8], before: usize) -> bool
-    requires { length d.now ≤ 4096 }
     ensures { result ≡ decoded_right before d.now }
 {
     slashes(d) == before && all_plain(d) && segments(d)
@@ -98,7 +88,7 @@ fn decoded_path(d: &[u8], before: usize) -> bool
 
 // Reads a path without escapes. Decoded it is itself, so only its segments are left to judge.
 fn plain_path(p: &[u8], path: &mut [u8]) -> Result<TargetPlace, Refusal>
-    requires { (length p.now ≤ 4096) × (length p.now ≤ length path.old) × (all_of is_target p.now ≡ true) × (all_of (other 37) p.now ≡ true) }
+    requires { (length p.now ≤ length path.old) × (all_of is_target p.now ≡ true) × (all_of (other 37) p.now ≡ true) }
     ensures { PathRead p.now path.old path.new result }
 {
     let decoded_len = put(path, 0, p);
@@ -113,7 +103,7 @@ fn plain_path(p: &[u8], path: &mut [u8]) -> Result<TargetPlace, Refusal>
 
 // Reads a path with so many slashes, escape by escape.
 fn escaped_path(p: &[u8], slashes: usize, path: &mut [u8]) -> Result<TargetPlace, Refusal>
-    requires { (length p.now ≤ 4096) × (length p.now ≤ length path.old) × (escapes_right p.now ≡ true) × (slashes ≡ count 47 p.now) }
+    requires { (length p.now ≤ length path.old) × (escapes_right p.now ≡ true) × (slashes ≡ count 47 p.now) }
     ensures { PathRead p.now path.old path.new result }
 {
     let decoded_len = decode(p, path);

@@ -1,48 +1,18 @@
-use native.Mathlib.Omega.{arith}
-use mathlib.Core.Path.{sym, ◌∙◌}
-use Rattle.octets.proofs.Scans.{run-within}
-use Rattle.octets.specs.Scan.{other}
-use Rattle.targets.proofs.Targets.{segments-start, segments-next, segments-end}
-use borrow.Author.Rules.{rules}
+use Rattle.std.proofs.Common.{rules}
+use mathlib.Core.Bool.{not}
+use mathlib.Core.Path.{◌∙◌}
+use lib.Dec.{eqb}
+use Rattle.std.proofs.lemmas.Iterator.Search.{all_from_yields_List}
+use Rattle.std.proofs.lemmas.Iterator.Splits.{YieldsList-from_slice_split}
+use Rattle.octets.proofs.Tests.{tests}
+use Rattle.targets.specs.Target.{is_dots}
+use Rattle.targets.proofs.Iterated.{segments-listed}
 use Rattle.targets.proofs.target.segments.Goals as goal
 
-pub loop-i-init : goal.loop-i-init
-loop-i-init c = (search rules, segments-start _)
-
-pub slice_bounds-is_dots-count : goal.slice_bounds-is_dots-count
-slice_bounds-is_dots-count c =
-    let p = c.args.p.now in
-    omega (arith, run-within (other 47) p c.loop-i.i c.loop-i-test.true)
-
-pub slice_bounds-is_dots-end : goal.slice_bounds-is_dots-end
-slice_bounds-is_dots-end c =
-    let p = c.args.p.now in
-    omega (arith, run-within (other 47) p c.loop-i.i c.loop-i-test.true)
-
-pub returns-then-is_dots : goal.returns-then-is_dots
-returns-then-is_dots c =
-    sym
-    (c.loop-i.invariant.1
-    ∙ segments-next _ _ _ c.loop-i-test.true c.find-end.ensures
-    ∙ rw (sym c.is_dots.ensures ∙ c.if-is_dots.true))
-
-pub overflow_add-i : goal.overflow_add-i
-overflow_add-i c =
-    let p = c.args.p.now in
-    omega (arith, run-within (other 47) p c.loop-i.i c.loop-i-test.true)
-
-pub loop-i-smaller : goal.loop-i-smaller
-loop-i-smaller c =
-    let p = c.args.p.now in
-    omega (arith, run-within (other 47) p c.loop-i.i c.loop-i-test.true)
-
-pub loop-i-preserved : goal.loop-i-preserved
-loop-i-preserved c =
-    let p = c.args.p.now in
-    let h = c.loop-i-test.true in (
-      omega (arith, run-within (other 47) p c.loop-i.i h),
-      c.loop-i.invariant.1 ∙ segments-next _ _ _ h c.find-end.ensures ∙ rw (sym c.is_dots.ensures ∙ c.if-is_dots.false),
-    )
-
 pub returns : goal.returns
-returns c = sym (c.loop-i.invariant.1 ∙ segments-end c.args.p.now c.loop-i.i c.loop-i-test.false)
+returns c =
+    let l = c.args.p.now in
+    all_from_yields_List (λ s. not (is_dots s)) _ _ _ c.all.ensures.ran
+    (YieldsList-from_slice_split _ (λ b. eqb b 47) l c.split.ensures.rest c.split.ensures.done c.split.ensures.closure (λ x r q k. search (rules, tests)))
+    (λ x b q k. search (rules, tests))
+    ∙ segments-listed l
