@@ -88,7 +88,7 @@ pub struct RequestPlaces {
 }
 
 // Reads a request's head, which is given without its CR LF CR LF. The decoded path is written to the front of path, and to places where
-// each field stands in head.
+// each field stands in head: `Fields { head, places: &places[..fields.count] }` are the fields.
 pub fn read_request(
     head: &[u8],
     places: &mut [Field],

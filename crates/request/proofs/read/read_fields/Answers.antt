@@ -1,3 +1,4 @@
+use native.Mathlib.Omega.{arith}
 use mathlib.Core.Path.{sym}
 use borrow.Author.Rules.{rules}
 use Rattle.std.proofs.Common.{Ok}
@@ -26,10 +27,10 @@ returns-in_err-count c =
     search rules
 
 pub slice_bounds-fields-end : goal.slice_bounds-fields-end
-slice_bounds-fields-end c = (stand c).room
+slice_bounds-fields-end c = omega (arith, (stand c).room, c.requires.1, c.field_lines.auto)
 
 pub slice_bounds-fields-end-2 : goal.slice_bounds-fields-end-2
-slice_bounds-fields-end-2 c = sym (length-take-le _ _ (stand c).room)
+slice_bounds-fields-end-2 c = sym (length-take-le _ _ (omega (arith, (stand c).room, c.requires.1, c.field_lines.auto)))
 
 pub invariant_of-fields : goal.invariant_of-fields
 invariant_of-fields c = record { inside = (stand c).inside }
