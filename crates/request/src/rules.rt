@@ -54,7 +54,8 @@ fn host_right(fields: Fields, minor: u8) -> bool
 
 // The body length that the Content-Length fields state.
 fn content_length(fields: Fields) -> Result<u64, Refusal>
-    ensures { stated_outcome result ≡ stated_by (values_of (bytes "content-length") (lowered (fields_at fields.entry.head.now fields.entry.places.now))) }
+    ensures { stated_outcome result
+        ≡ stated_by (values_of (bytes "content-length") (lowered (fields_at fields.entry.head.now fields.entry.places.now))) }
 {
     let lengths = named(fields, b"content-length");
     let Some(value) = lengths.first else {

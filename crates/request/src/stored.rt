@@ -34,8 +34,8 @@ impl<'a> Fields<'a> {
         self.places[k].value.of(self.head)
     }
 
-    // Whether the field with number k has this name, letter case aside. A name of another length costs one comparison of two numbers, and none
-    // of its bytes is read.
+    // Whether the field with number k has this name, letter case aside. A name of another length costs one comparison of two numbers, and
+    // none of its bytes is read.
     pub fn has_name(self, k: usize, name: &[u8]) -> bool
         requires { k < length self.places.now }
         ensures { result ≡ same_letters (field_at self.entry.head.now self.entry.places.now k).name name.now }
