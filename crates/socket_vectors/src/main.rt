@@ -5,5 +5,5 @@
 mod cases; // the reader for bytes that come in runs
 
 fn main(rt: HostRuntime) {
-    cases::all(rt.stdout());
+    cases::all(&rt);
 }
