@@ -5,7 +5,7 @@ ghost use Rattle.octets.specs.Lists.{different};
 ghost use Rattle.headers.specs.Block.{parsed, well_formed, count_of, names};
 ghost use Rattle.scgi.specs.Check.{stated_in, has_scgi, checked_outcome, rest_of, check_block};
 
-use headers::block::header_at;
+use headers::block::{HeaderPlace, header_at};
 use headers::names::{Names, store_names};
 use octets::compare::same;
 use octets::decimal;
@@ -22,13 +22,15 @@ fn stated_length(block: &[u8]) -> Result<u64, Refusal>
         return Err(Refusal::NoContentLength);
     }
     // The block is well formed, so that the header is there.
-    let header = header_at(block, 0).unwrap();
-    let name_end = header.name_end;
+    let HeaderPlace {
+        name_end,
+        value_end,
+    } = header_at(block, 0).unwrap();
     if !same(&block[..name_end], b"CONTENT_LENGTH") {
         return Err(Refusal::NoContentLength);
     }
     let start = name_end + 1;
-    decimal::read(&block[start..header.value_end]).ok_or(Refusal::NoContentLength)
+    decimal::read(&block[start..value_end]).ok_or(Refusal::NoContentLength)
 }
 
 // Whether a block, whose names differ, has the header SCGI with the value 1.

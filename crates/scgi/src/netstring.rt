@@ -23,27 +23,23 @@ pub fn read_digits(s: &[u8], count: usize, value: usize) -> Result<Digits, Refus
     let mut n = count;
     let mut v = value;
     for &b in s {
-        if b == b':' {
-            if 0 < n {
+        match b {
+            b':' if 0 < n => {
                 return Ok(Digits {
                     count: n,
                     value: v,
                     colon: true,
                 });
             }
-            return Err(Refusal::LengthMalformed);
+            b'0'..=b'9' if n == 0 || 0 < v => {
+                v = v * 10 + usize::from(b - b'0');
+                if 16384 < v {
+                    return Err(Refusal::BlockTooLong);
+                }
+                n += 1;
+            }
+            _ => return Err(Refusal::LengthMalformed),
         }
-        if !b.is_ascii_digit() {
-            return Err(Refusal::LengthMalformed);
-        }
-        if 0 < n && v == 0 {
-            return Err(Refusal::LengthMalformed);
-        }
-        v = v * 10 + usize::from(b - b'0');
-        if 16384 < v {
-            return Err(Refusal::BlockTooLong);
-        }
-        n += 1;
     }
     Ok(Digits {
         count: n,

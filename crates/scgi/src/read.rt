@@ -3,7 +3,7 @@ ghost use Rattle.std.specs.Prelude.{◌≡◌};
 ghost use Rattle.scgi.specs.Read.{reading_outcome, read_of};
 
 use crate::check::check_block;
-use crate::netstring::read_length;
+use crate::netstring::{Length, read_length};
 use octets::refusal::Refusal;
 use octets::span::Span;
 
@@ -19,9 +19,7 @@ pub struct Request {
 pub fn read(s: &[u8]) -> Result<Request, Refusal>
     ensures { reading_outcome result ≡ read_of s.now }
 {
-    let length = read_length(s)?;
-    let next = length.next;
-    let len = length.len;
+    let Length { len, next } = read_length(s)?;
     let comma = next + len;
     if s.len() <= comma {
         return Err(Refusal::Cut);
@@ -29,13 +27,14 @@ pub fn read(s: &[u8]) -> Result<Request, Refusal>
     if s[comma] != b',' {
         return Err(Refusal::NoComma);
     }
-    let n = check_block(&s[next..comma])?;
+    let block = Span { start: next, len };
+    let n = check_block(block.of(s))?;
     let used = comma + 1 + n;
     if s.len() < used {
         return Err(Refusal::Cut);
     }
     Ok(Request {
-        block: Span { start: next, len },
+        block,
         body: Span {
             start: comma + 1,
             len: n,
