@@ -1,9 +1,9 @@
 -- The body of a request.
 -- Assumes nothing.
-use Rattle.std.specs.Prelude.{ℕ, List, leb, length, take}
-use Rattle.octets.specs.Outcome.{Outcome, refused, gives, then, need}
-use Rattle.gateway.specs.declared.body.Body as Code
-use Rattle.gateway.specs.declared.body.Body.TheVariants.{Bytes, Refused}
+use Rattle.std.specs.Prelude.{ℕ, List, leb, length, take, Result}
+use Rattle.octets.specs.Outcome.{Outcome, gives, then, need}
+use Rattle.octets.specs.Refusal.{outcome}
+use Rattle.octets.specs.declared.refusal.Refusal.{Refusal}
 
 -- a request's body, and how many of the bytes after the head it takes
 pub record Body : Type 0 where
@@ -23,6 +23,5 @@ abbrev pub length_of : (most n : ℕ) → List ℕ → Outcome ℕ
 length_of most n s = then (body_of most n s) (λ b. gives b.used)
 
 -- what the code's answer says
-abbrev pub body_outcome : Code.Body → Outcome ℕ
-body_outcome (Bytes n) = gives n
-body_outcome (Refused n) = refused n
+abbrev pub body_outcome : Result ℕ Refusal → Outcome ℕ
+body_outcome = outcome (λ n. n)
