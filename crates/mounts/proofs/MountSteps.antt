@@ -10,7 +10,7 @@ use native.Mathlib.Omega.{arith}
 use lib.Dec.{eqb, leb, ltb}
 use lib.ListN.{length, take, drop, get_or, length-take, length-drop, drop_of_length-le}
 use borrow.Author.Rules.{rules}
-use borrow.Author.Tests.{eq-eqb, ne_eqb, lt-leb, le-leb, ltb-true, ltb-false}
+use borrow.Author.Tests.{eq-eqb, ne_eqb, eqb-true, eqb-false, lt-leb, le-leb, ltb-true, ltb-false}
 use Rattle.octets.specs.Outcome.{Outcome, refused, gives, is_good, then, need, given}
 use Rattle.octets.specs.Lists.{different}
 use Rattle.octets.specs.Refusal.{number_of}
@@ -62,15 +62,19 @@ module _ (b : List ℕ) (i n v : ℕ) (o : (i < n) × (n < v) × (v < length b))
       let l : length (header_in b i n v).name ≡ n - i = simp (length-take, length-drop) (omega arith) in
       omega (arith, l, value-length)
 
-  pub other-first : (get_or b i 0 ≡ 47 → ⊥) → is_mount ≡ false
-  other-first h = rw (name-first ∙ ne_eqb 47 (get_or b i 0) (λ e. h (sym e)))
+  -- it is none where its name begins with another byte, or ends with a slash
+  pub bad-name : (get_or b i 0 ≡ 47 → get_or b (n - 1) 0 ≡ 47) → is_mount ≡ false
+  bad-name h = by (eqb (get_or b i 0) 47) refl
+    where
+      by : (t : Bool) → eqb (get_or b i 0) 47 ≡ t → is_mount ≡ false
+      by true q =
+          let f = eqb-true (get_or b i 0) 47 q in
+          rw (name-first ∙ eq-eqb 47 (get_or b i 0) (sym f), name-last ∙ eq-eqb (get_or b (n - 1) 0) 47 (h f))
+      by false q = rw (name-first ∙ ne_eqb 47 (get_or b i 0) (λ e. eqb-false (get_or b i 0) 47 q (sym e)))
 
   module _ (f : get_or b i 0 ≡ 47) where
     first_is : begins (47 ∷ []) (header_in b i n v).name ≡ true
     first_is = name-first ∙ eq-eqb 47 (get_or b i 0) (sym f)
-
-    pub slash-last : get_or b (n - 1) 0 ≡ 47 → is_mount ≡ false
-    slash-last h = rw (first_is, name-last ∙ eq-eqb (get_or b (n - 1) 0) 47 h)
 
     module _ (l : get_or b (n - 1) 0 ≡ 47 → ⊥) where
       last-is : ends 47 (header_in b i n v).name ≡ false

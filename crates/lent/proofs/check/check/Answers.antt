@@ -1,5 +1,5 @@
 use mathlib.Core.Path.{◌≡◌}
-use native.Mathlib.Nat.{le_refl}
+use native.Mathlib.Omega.{arith}
 use borrow.Author.Rules.{rules}
 use Rattle.lent.proofs.CheckSteps.{refusal, always-room, done}
 use Rattle.lent.proofs.check.check.Goals as goal
@@ -16,4 +16,4 @@ pub returns-in-Err-Full : goal.returns-in-Err-Full
 returns-in-Err-Full c =
     let z : c.or.result ≡ refusal c.check_with-in-Err-Full.result = search rules in
     let f = c.check_with-in-Err-Full.ensures in
-    done 341 _ _ _ _ f (λ e. always-room 341 _ _ _ (rw e at f) (le_refl 341)) _ z
+    done _ _ _ _ _ f (λ e. always-room _ _ _ _ (rw e at f) (omega arith)) _ z

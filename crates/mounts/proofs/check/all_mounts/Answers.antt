@@ -1,11 +1,10 @@
-use mathlib.Core.Logic.{⊎_elim}
 use mathlib.Core.Path.{◌≡◌, sym, ap, ◌∙◌}
 use mathlib.Core.Bool.{not}
 use native.Mathlib.Omega.{arith}
 use borrow.Author.Rules.{rules}
 use Rattle.octets.specs.Outcome.{gives}
 use Rattle.headers.specs.Block.{header_outcome, HeaderFound}
-use Rattle.mounts.proofs.MountSteps.{found_at, start, Step, step, is_mount, always-header, no_more, other-first, slash-last, by-value}
+use Rattle.mounts.proofs.MountSteps.{found_at, start, Step, step, is_mount, always-header, no_more, bad-name, by-value}
 use Rattle.mounts.proofs.check.all_mounts.Goals as goal
 use Rattle.mounts.proofs.check.all_mounts.Goals.{After-unwrap-h, After-is_none}
 
@@ -44,9 +43,8 @@ bounds-block-h c = omega (arith, (found (goal.at.bounds-block-h c).After-unwrap-
 
 pub returns-then-block-i-ne47 : goal.returns-then-block-i-ne47
 returns-then-block-i-ne47 c =
-    let f = found (goal.at.returns-then-block-i-ne47 c).After-unwrap-h in
-    let h = header (goal.at.returns-then-block-i-ne47 c).After-unwrap-h in
-    ⊎_elim (λ w. sym (h.bad (other-first _ _ _ _ f.order (λ e. omega arith)))) (λ w. sym (h.bad (slash-last _ _ _ _ f.order (omega arith) (omega arith)))) c.then-block-i-ne47.branch-raw
+    let k = (goal.at.returns-then-block-i-ne47 c).After-unwrap-h in
+    sym ((header k).bad (bad-name _ _ _ _ (found k).order (λ e. search rules)))
 
 pub overflow_add-h : goal.overflow_add-h
 overflow_add-h c = omega (arith, (found (goal.at.overflow_add-h c).After-unwrap-h).order)
