@@ -1,11 +1,11 @@
 -- Laws of what oy_spool gives and stores.
 -- Assumes nothing.
-use Prim.Native.Nat.{ℕ, ◌≤◌, ◌<◌}
+use Prim.Native.Nat.{ℕ, ◌≤◌}
 use mathlib.Core.Path.{◌≡◌, sym, ap, ◌∙◌}
 use mathlib.Core.List.{List, [], ◌∷◌}
 use native.Mathlib.Nat.{zero-add}
 use lib.ListN.{length}
-use borrow.Author.Tests.{le-leb, lt-leb}
+use borrow.Author.Tests.{le-leb}
 use Rattle.octets.specs.Outcome.{gives}
 use Rattle.octets.specs.Copy.{over}
 use Rattle.scgi.specs.Spool.{ending_of, ending_refusal, SpoolDone}
@@ -14,13 +14,7 @@ use Rattle.capi.specs.Answer.{Answered}
 use Rattle.capi.specs.Spool.{ending_number, SpoolAnswered}
 
 module _ (bytes d answer : List ℕ) where
-  -- an answer that is too short leaves both lists alone
-  pub too_short : length answer < 3 → SpoolAnswered bytes d d answer answer 21
-  too_short h =
-      let t = lt-leb 3 (length answer) h in
-      record { answers = record { number = rw t; list = rw t }; stored = rw t }
-
-  -- else the spool call's answer is told, and its lengths stay
+  -- the spool call's answer is told, and its lengths stay, where there is room
   pub told :
       3 ≤ length answer → (d' answer' : List ℕ) (s : Spooled) → SpoolDone bytes d d' s → (kind refusal r : ℕ) → kind ≡ ending_number (ending_of s.ending)
       → refusal ≡ ending_refusal (ending_of s.ending) → Answered (gives (s.count ∷ kind ∷ refusal ∷ [])) answer answer' r

@@ -2,10 +2,11 @@
 -- Assumes nothing.
 use Rattle.std.specs.Prelude.{ℕ, List, [], ◌∷◌, Option, None, Some}
 use Rattle.octets.specs.Outcome.{Outcome, gives, then}
-use Rattle.headers.specs.Lookup.{Part, lookup_of}
+use Rattle.octets.specs.declared.span.Span.{Span}
+use Rattle.headers.specs.Lookup.{lookup_of}
 
 -- 1, start and length of the value in the block; "Whether the name is there is a separate answer": 0 where it is absent, with an empty part
-abbrev pub part_numbers : Option Part → List ℕ
+abbrev pub part_numbers : Option Span → List ℕ
 part_numbers (Some p) = 1 ∷ p.start ∷ p.len ∷ []
 part_numbers None = 0 ∷ 0 ∷ 0 ∷ []
 

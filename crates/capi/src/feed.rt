@@ -3,7 +3,8 @@ ghost use Rattle.std.specs.Prelude.{◌≡◌};
 ghost use Rattle.socket.specs.Socket.{new, feed_of};
 ghost use Rattle.capi.specs.Feed.{FedAnswered};
 
-use socket::reader::{Answer, Socket};
+use crate::answer::refused;
+use socket::reader::Socket;
 
 // What a run of bytes gave: the state for the next call; 0 at the end, 1 before it, else the refusal; how many bytes of the run belong to the
 // body and how many come after the end; at the end the lengths of block and body and the bytes used, else 0.
@@ -30,34 +31,26 @@ pub fn oy_socket_new() -> Socket
 pub fn oy_socket_feed(state: Socket, run: &[u8], block: &mut [u8]) -> Fed
     ensures { FedAnswered (feed_of state run.now block.old) block.new result }
 {
-    let t = state.feed(run, block);
-    let state = t.state;
-    let body = t.body;
-    let after = t.after;
-    let a = t.answer;
-    let Answer::Request {
-        block_len,
-        body_len,
-        used,
-    } = a
-    else {
-        return Fed {
-            state,
-            refusal: a.number() as u64,
-            body,
-            after,
-            block_len: 0,
-            body_len: 0,
-            used: 0,
-        };
-    };
-    Fed {
-        state,
+    let taken = state.feed(run, block);
+    let fed = Fed {
+        state: taken.state,
         refusal: 0,
-        body,
-        after,
-        block_len,
-        body_len,
-        used,
+        body: taken.body,
+        after: taken.after,
+        block_len: 0,
+        body_len: 0,
+        used: 0,
+    };
+    match taken.answer {
+        Ok(end) => Fed {
+            block_len: end.block_len,
+            body_len: end.body_len,
+            used: end.used,
+            ..fed
+        },
+        Err(why) => Fed {
+            refusal: refused(why),
+            ..fed
+        },
     }
 }

@@ -1,38 +1,19 @@
 // Script responses.
 ghost use Rattle.std.specs.Prelude.{◌≡◌};
+ghost use Rattle.response.specs.Table.{response_outcome};
 ghost use Rattle.capi.specs.Answer.{Answered};
-ghost use Rattle.capi.specs.Respond.{edition_of, numbered_outcome, action_number, response_gives};
+ghost use Rattle.capi.specs.Respond.{action_number, response_for, response_gives};
 
-use crate::answer::give;
+use crate::answer::{give, refused};
 use editions::edition::{Edition, respond_by};
-use response::table::{Action, Response};
-
-// What the number of an edition names.
-#[derive(Clone, Copy)]
-pub enum Numbered {
-    Known(Edition),
-    // 20
-    Unknown,
-}
-
-// The edition that a number names.
-fn edition_of(n: u64) -> Numbered
-    ensures { numbered_outcome result ≡ edition_of n }
-{
-    if n == 0 {
-        return Numbered::Known(Edition::Rfc);
-    }
-    if n == 1 {
-        return Numbered::Known(Edition::Draft);
-    }
-    Numbered::Unknown
-}
+use octets::refusal::Refusal;
+use response::table::{Action, Answer};
 
 // The number of an action.
-fn action_number(a: Action) -> u64
-    ensures { result ≡ action_number a }
+fn action_number(action: Action) -> u64
+    ensures { result ≡ action_number action }
 {
-    match a {
+    match action {
         Action::Serve => 1,
         Action::Redirect => 2,
         Action::RedirectDocument => 3,
@@ -40,38 +21,32 @@ fn action_number(a: Action) -> u64
     }
 }
 
+// The response under the edition of the number, which is read before anything else.
+fn respond_for(edition: u64, method: &[u8], script: &[u8]) -> Result<Answer, Refusal>
+    ensures { response_outcome result ≡ response_for edition method.now script.now }
+{
+    // "settings .. wrong": a number that names no edition is the caller's fault.
+    let edition = Edition::try_from(edition).ok().ok_or(Refusal::Lent)?;
+    respond_by(edition, method, script)
+}
+
 // What a script's whole output asks of the server under an edition, 0 RFC 3875, 1 the draft of 1996, for a request with the method. Gives
 // the action, 1 serve, 2 redirect, 3 redirect with document, 4 document; the status; Location start and length; body start and length.
 pub fn oy_response(edition: u64, method: &[u8], script: &[u8], answer: &mut [u64]) -> u64
     ensures { Answered (response_gives edition method.now script.now) answer.old answer.new result }
 {
-    let n = edition_of(edition);
-    let Numbered::Known(e) = n else {
-        // "settings .. wrong": a number that names no edition is the caller's fault.
-        return 20;
-    };
-    let r = respond_by(e, method, script);
-    let Response::Answer {
-        action,
-        status,
-        location,
-        location_len,
-        body,
-        body_len,
-    } = r
-    else {
-        return r.number() as u64;
-    };
-    let a = action_number(action);
-    give(
-        answer,
-        &[
-            a,
-            status,
-            location as u64,
-            location_len as u64,
-            body as u64,
-            body_len as u64,
-        ],
-    )
+    match respond_for(edition, method, script) {
+        Ok(response) => give(
+            answer,
+            &[
+                action_number(response.action),
+                response.status,
+                response.location.start as u64,
+                response.location.len as u64,
+                response.body.start as u64,
+                response.body.len as u64,
+            ],
+        ),
+        Err(why) => refused(why),
+    }
 }

@@ -1,22 +1,21 @@
 // Requests that stand end to end.
 ghost use Rattle.std.specs.Prelude.{◌≡◌};
-ghost use Rattle.scgi.specs.Spool.{ending_of};
+ghost use Rattle.scgi.specs.Spool.{ending_of, ending_refusal};
 ghost use Rattle.capi.specs.Spool.{ending_number, SpoolAnswered};
 
-use crate::answer::give;
-use scgi::spool::{Ending, Stop, spool};
+use crate::answer::{give, refused};
+use octets::refusal::Refusal;
+use scgi::spool::{Ending, spool};
 
-// The number of an ending.
-fn ending_number(e: Ending) -> u64
-    ensures { result ≡ ending_number (ending_of e) }
+// The number of an ending, and that of its refusal or 0.
+fn ending_numbers(ending: Ending) -> (u64, u64)
+    ensures { (result.0 ≡ ending_number (ending_of ending)) × (result.1 ≡ ending_refusal (ending_of ending)) }
 {
-    let Ending::Stopped(s) = e else {
-        return 2;
-    };
-    match s {
-        Stop::Whole => 0,
-        Stop::Cut => 1,
-        Stop::Full => 3,
+    match ending {
+        Ending::Whole => (0, 0),
+        Ending::Cut => (1, 0),
+        Ending::Refused(why) => (2, refused(why)),
+        Ending::Full => (3, 0),
     }
 }
 
@@ -26,11 +25,9 @@ pub fn oy_spool(bytes: &[u8], lengths: &mut [u64], answer: &mut [u64]) -> u64
     ensures { SpoolAnswered bytes.now lengths.old lengths.new answer.old answer.new result }
 {
     if answer.len() < 3 {
-        return 21;
+        return refused(Refusal::NoRoom);
     }
-    let s = spool(bytes, lengths);
-    let e = s.ending;
-    let kind = ending_number(e);
-    let refusal = e.number() as u64;
-    give(answer, &[s.count as u64, kind, refusal])
+    let spooled = spool(bytes, lengths);
+    let (ending, refusal) = ending_numbers(spooled.ending);
+    give(answer, &[spooled.count as u64, ending, refusal])
 }

@@ -1,13 +1,8 @@
-use Rattle.capi.proofs.Writes.{no_room, write-refused, write-told}
-use native.Mathlib.Omega.{arith}
+use Rattle.std.proofs.Common.{arith}
+use Rattle.std.proofs.lemmas.Bool.Decides.{nat_tests}
+use Rattle.capi.proofs.Writes.{due, no_room}
 use Rattle.capi.proofs.write.oy_scgi_write.Goals as goal
 
-pub returns-then-answer-lt1 : goal.returns-then-answer-lt1
-returns-then-answer-lt1 c = no_room _ _ _ _ (omega arith) _ c.untold_write.ensures
-
-pub returns-in_default : goal.returns-in_default
-returns-in_default c =
-    rw (c.number.ensures, c.in_default.is) (write-refused _ _ _ _ _ c.write-w.ensures _ _ c.in_default.is)
-
-pub returns : goal.returns
-returns c = write-told _ _ _ _ _ c.write-w.ensures _ (omega arith) _ c.in-Bytes.is _ _ c.give.ensures
+pub returns-then-is_empty : goal.returns-then-is_empty
+returns-then-is_empty c =
+    no_room _ _ _ _ (grind (arith, nat_tests, c.if-is_empty.ensures)) _ (rw (c.refused.ensures, c.unwrap_or.ensures, c.err.ensures.value) (due _ _ _ _ _ c.write.ensures))
