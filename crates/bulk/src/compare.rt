@@ -8,10 +8,8 @@ pub fn eight_at(s: &[u8], i: usize, t: &[u8; 8]) -> bool
     ensures { result ≡ same_bytes (take 8 (drop i s.now)) t.now }
 {
     let mut ok = true;
-    let mut k: usize = 0;
-    while k < 8 {
+    for k in 0..8 {
         ok = ok & (s[i + k] == t[k]);
-        k += 1;
     }
     ok
 }

@@ -1,59 +1,48 @@
 // Where a run of bytes ends, sixteen bytes tested at once.
-ghost use Rattle.std.specs.Prelude.{◌≡◌, not, ◌+◌, ◌≤◌, length, take, drop};
+ghost use Rattle.std.specs.Prelude.{ℕ, Bool, ◌≡◌, ◌+◌, ◌≤◌, length, take, drop};
 ghost use Rattle.octets.specs.Kinds.{is_value};
-ghost use Rattle.octets.specs.Scan.{run, all_of, other};
+ghost use Rattle.octets.specs.Scan.{run, all_of, other, Tests};
 
-use octets::kinds::Kind;
-use octets::scan::{find, run_end};
+use octets::scan::{end_of, find};
 
-// Whether b is no byte of a value. Written without a branch, so that the compiler tests sixteen bytes at once.
-fn no_value(b: u8) -> bool
-    ensures { result ≡ not (is_value b) }
+// Whether each of the sixteen bytes from i on passes a test. The loop has no way out, so that the compiler tests them at once.
+fn sixteen_pass<F: Fn(u8) -> bool>(s: &[u8], i: usize, passes: F) -> bool
+    requires { F.IsAlwaysCallable passes × (i + 16 ≤ length s.now) }
+    ensures { (p : ℕ → Bool) → Tests (F.post passes) p → result ≡ all_of p (take 16 (drop i s.now)) }
 {
-    ((b < 32) & (b != 9)) | (b == 127)
-}
-
-// Whether one of the sixteen bytes from i on is no byte of a value.
-fn breaks(s: &[u8], i: usize) -> bool
-    requires { i + 16 ≤ length s.now }
-    ensures { result ≡ not (all_of is_value (take 16 (drop i s.now))) }
-{
-    let mut bad = false;
-    let mut k: usize = 0;
-    while k < 16 {
-        bad = bad | no_value(s[i + k]);
-        k += 1;
+    let mut good = true;
+    for k in 0..16 {
+        good = good & passes(s[i + k]);
     }
-    bad
+    good
 }
 
-// The end of the run of value bytes that begins at from. Sixteen bytes are tested at once, for speed.
+// The end of the bytes from a place on that pass a test. For runs of sixteen bytes and more; `end_of` of octets for shorter ones.
+// A while, since it goes on by sixteen.
+fn far_end<F: Fn(u8) -> bool>(s: &[u8], from: usize, passes: F) -> usize
+    requires { F.IsAlwaysCallable passes × (from ≤ length s.now) }
+    ensures { (p : ℕ → Bool) → Tests (F.post passes) p → result ≡ from + run p (drop from s.now) }
+{
+    let mut i = from;
+    while 16 <= s.len() - i && sixteen_pass(s, i, &passes) {
+        i += 16;
+    }
+    end_of(s, i, passes)
+}
+
+// Whether b is a byte of a value. Written without a branch, so that the compiler tests sixteen bytes at once.
+fn is_value(b: u8) -> bool
+    ensures { result ≡ is_value b }
+{
+    ((32 <= b) | (b == 9)) & (b != 127)
+}
+
+// The end of the run of value bytes that begins at from.
 pub fn value_end(s: &[u8], from: usize) -> usize
     requires { from ≤ length s.now }
     ensures { result ≡ from + run is_value (drop from s.now) }
 {
-    let mut i = from;
-    while 16 <= s.len() - i {
-        if breaks(s, i) {
-            return run_end(Kind::Value, s, i);
-        }
-        i += 16;
-    }
-    run_end(Kind::Value, s, i)
-}
-
-// Whether one of the sixteen bytes from i on is b.
-fn holds(s: &[u8], i: usize, b: u8) -> bool
-    requires { i + 16 ≤ length s.now }
-    ensures { result ≡ not (all_of (other b) (take 16 (drop i s.now))) }
-{
-    let mut hit = false;
-    let mut k: usize = 0;
-    while k < 16 {
-        hit = hit | (s[i + k] == b);
-        k += 1;
-    }
-    hit
+    far_end(s, from, is_value)
 }
 
 // The first place of b at or after from, or the length of s. For bytes that are sixteen places off and more; `find` of octets for nearer ones.
@@ -61,14 +50,7 @@ pub fn find_far(s: &[u8], from: usize, b: u8) -> usize
     requires { from ≤ length s.now }
     ensures { result ≡ from + run (other b) (drop from s.now) }
 {
-    let mut i = from;
-    while 16 <= s.len() - i {
-        if holds(s, i, b) {
-            return find(s, i, b);
-        }
-        i += 16;
-    }
-    find(s, i, b)
+    far_end(s, from, |x| x != b)
 }
 
 // The same for a byte that may be near: of sixteen bytes by `find`, and then by sixteen at once.

@@ -5,24 +5,23 @@ use mathlib.Core.Bool.{Bool, true, false, cond, not, ◌&&◌, ◌||◌, beq}
 use mathlib.Core.List.{List, [], ◌∷◌}
 use Prim.Native.Nat.{ℕ, zero, suc, ◌+◌, ◌-◌, ◌≤◌, ◌<◌}
 use native.Mathlib.Omega.{arith}
-use lib.Dec.{eqb, ltb}
+use lib.Dec.{eqb, leb}
 use lib.ListN.{length, take, drop, get_or, length-drop, drop_of_length-le}
 use lib.Seq.{drop-drop}
 use Rattle.octets.specs.Compare.{same_bytes}
 use Rattle.octets.specs.Kinds.{is_value}
-use Rattle.octets.specs.Scan.{run, all_of, other}
-use Rattle.octets.proofs.Bools.{and_left, and_right, or-false}
+use Rattle.octets.specs.Scan.{run, all_of}
+use Rattle.octets.proofs.Bools.{and_left, and_right}
 use Rattle.octets.proofs.ByteRules.{all_below, below}
 use Rattle.octets.proofs.Lists.{next, part-first}
 
--- a byte that fails, or a later one
-not-and : (a b : Bool) → not (a && b) ≡ not a || not b
-not-and true b = refl
-not-and false b = refl
+and-and : (a b c : Bool) → a && (b && c) ≡ (a && b) && c
+and-and true b c = refl
+and-and false b c = refl
 
-or-or : (a b c : Bool) → a || (b || c) ≡ (a || b) || c
-or-or true b c = refl
-or-or false b c = refl
+and-true : (a : Bool) → a && true ≡ a
+and-true true = refl
+and-true false = refl
 
 module _ (s : List ℕ) (i n : ℕ) where
   -- the bytes of the chunk from its place k on
@@ -48,43 +47,27 @@ module _ (s : List ℕ) (i n : ℕ) where
       let z : i + n - (i + k) ≡ 0 = omega arith in
       rw z
 
--- whether one of the bytes fails a test
+-- whether each of the bytes passes a test
 
 module _ (p : ℕ → Bool) (s : List ℕ) (i n : ℕ) where
   -- before the loop all of the chunk is left
-  pub any-start : not (all_of p (take n (drop i s))) ≡ false || not (all_of p (left s i n 0))
-  any-start = ap (λ (t : List ℕ). not (all_of p t)) (sym (left-all s i n))
+  pub all-start : all_of p (take n (drop i s)) ≡ all_of p (left s i n 0)
+  all-start = ap (all_of p) (sym (left-all s i n))
 
-  pub any-more :
-      (k : ℕ) (bad : Bool) {whole r : Bool} → k < n → i + n ≤ length s → whole ≡ bad || not (all_of p (left s i n k))
-      → r ≡ not (p (get_or s (i + k) 0)) → whole ≡ (bad || r) || not (all_of p (left s i n (k + 1)))
+  pub all-more :
+      (k : ℕ) (good : Bool) {whole r : Bool} → k < n → i + n ≤ length s → whole ≡ good && all_of p (left s i n k)
+      → r ≡ p (get_or s (i + k) 0) → whole ≡ (good && r) && all_of p (left s i n (k + 1))
   unfolding all_of
-  any-more k bad {whole} {r} h l e q =
+  all-more k good {whole} {r} h l e q =
       let rest = all_of p (left s i n (k + 1)) in
-      e ∙ ap (λ (t : List ℕ). bad || not (all_of p t)) (left-first s i n k h l) ∙ ap (◌||◌ bad) (not-and (p (get_or s (i + k) 0)) rest)
-      ∙ or-or bad (not (p (get_or s (i + k) 0))) (not rest) ∙ ap (λ (t : Bool). (bad || t) || not rest) (sym q)
+      e ∙ ap (λ (t : List ℕ). good && all_of p t) (left-first s i n k h l) ∙ and-and good (p (get_or s (i + k) 0)) rest
+      ∙ ap (λ (t : Bool). (good && t) && rest) (sym q)
 
-  pub any-end : (k : ℕ) (bad : Bool) {whole : Bool} → n ≤ k → whole ≡ bad || not (all_of p (left s i n k)) → bad ≡ whole
+  pub all-end : (k : ℕ) (good : Bool) {whole : Bool} → n ≤ k → whole ≡ good && all_of p (left s i n k) → good ≡ whole
   unfolding all_of
-  any-end k bad {whole} h e = sym (e ∙ ap (λ (t : List ℕ). bad || not (all_of p t)) (left-none s i n k h) ∙ or-false bad)
-
--- a byte that is x fails the test for another byte
-pub other-not : (x b : ℕ) → eqb b x ≡ not (other x b)
-other-not x b = not-not (eqb b x)
-  where
-    not-not : (t : Bool) → t ≡ not (not t)
-    not-not true = refl
-    not-not false = refl
+  all-end k good {whole} h e = sym (e ∙ ap (λ (t : List ℕ). good && all_of p t) (left-none s i n k h) ∙ and-true good)
 
 -- whether the bytes are those of a list t of n bytes
-
-and-and : (a b c : Bool) → a && (b && c) ≡ (a && b) && c
-and-and true b c = refl
-and-and false b c = refl
-
-and-true : (a : Bool) → a && true ≡ a
-and-true true = refl
-and-true false = refl
 
 module _ (s t : List ℕ) (i n : ℕ) (w : length t ≡ n) where
   pub same_start : same_bytes (take n (drop i s)) t ≡ true && same_bytes (left s i n 0) (drop 0 t)
@@ -145,7 +128,7 @@ same_test false true e = e
 pub same_at : (f g : ℕ → Bool) → all_below (λ b. beq (f b) (g b)) 256 ≡ true → (b : ℕ) → b < 256 → f b ≡ g b
 same_at f g t b h = same_test (f b) (g b) (below (λ b. beq (f b) (g b)) 256 t b h)
 
--- the bytes that are no value's, by three comparisons
-pub no_value : (b : ℕ) → b < 256 → (ltb b 32 && not (eqb b 9)) || eqb b 127 ≡ not (is_value b)
+-- the bytes of a value, by three comparisons
+pub by_value : (b : ℕ) → b < 256 → (leb 32 b || eqb b 9) && not (eqb b 127) ≡ is_value b
 unfolding is_value
-no_value = same_at (λ b. (ltb b 32 && not (eqb b 9)) || eqb b 127) (λ b. not (is_value b)) refl
+by_value = same_at (λ b. (leb 32 b || eqb b 9) && not (eqb b 127)) is_value refl

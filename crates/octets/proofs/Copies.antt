@@ -1,12 +1,12 @@
 -- Laws of writing over a buffer: byte after byte, piece after piece, and from the last byte down.
 -- Assumes nothing.
 use mathlib.Core.Path.{◌≡◌, refl, sym, ap, ◌∙◌}
-use mathlib.Core.List.{List, [], ◌∷◌, ◌++◌, append_assoc, append-nil}
+use mathlib.Core.List.{List, [], ◌∷◌, ◌++◌, append_assoc}
 use Prim.Native.Nat.{ℕ, suc, ◌+◌, ◌-◌, ◌≤◌, ◌<◌}
 use native.Mathlib.Nat.{add_assoc, add-zero}
 use native.Mathlib.Numerals.{add-one}
 use native.Mathlib.Omega.{arith}
-use lib.ListN.{length, take, drop, set, get_or, length-append, length-take, length-drop, take-append-drop, drop_of_length-le}
+use lib.ListN.{length, take, drop, set, get_or, length-append, length-take, length-drop, take-append-drop}
 use lib.Seq.{take_at, drop_at, drop-drop, paste, take-add, take-length, take-suc, get_or-drop, get_or-append-add, set_split, take-set-le}
 use Rattle.octets.specs.Copy.{over, Wrote}
 
@@ -14,6 +14,13 @@ use Rattle.octets.specs.Copy.{over, Wrote}
 pub whole : (d : List ℕ) (at : ℕ) (s : List ℕ) → paste d at s (length s) ≡ over d at s
 unfolding over
 whole d at s = simp (append_assoc, take-length)
+
+-- what stands in d after a write of p to `d[at..at + length p]`
+pub written : (d : List ℕ) (at : ℕ) (p : List ℕ) → take at d ++ (p ++ drop (at + length p - at) (drop at d)) ≡ over d at p
+unfolding over
+written d at p =
+    let e : at + (at + length p - at) ≡ at + length p = omega arith in
+    rw (drop-drop, e)
 
 -- one byte
 pub one_byte : (d : List ℕ) (at b : ℕ) → at < length d → set d at b ≡ over d at (b ∷ [])
@@ -115,13 +122,6 @@ module _ {d : List ℕ} {at : ℕ} (s : List ℕ) (i : ℕ) {d' : List ℕ} (w :
       let l : length (take i s) ≡ i = simp length-take (omega arith) in
       let all : take (length s - i) (drop i s) ≡ drop i s = ap (λ (k : ℕ). take k (drop i s)) (sym (length-drop i s)) ∙ take-length (drop i s) in
       rw (all, take-append-drop i s) at (and_then w (omega (arith, l)) (take (length s - i) (drop i s)) d'' r e)
-
--- a list written over the whole of a buffer
-pub over-all : (d p : List ℕ) → length p ≡ length d → over d 0 p ≡ p
-unfolding over
-over-all d p h =
-    let n : length d ≤ 0 + length p = omega arith in
-    rw (drop_of_length-le d n) (append-nil p)
 
 -- a list written to the front of a buffer is the front of that
 pub front-is : (d p : List ℕ) {d' : List ℕ} {r : ℕ} → length p ≤ length d → Wrote d 0 p d' r → take r d' ≡ p

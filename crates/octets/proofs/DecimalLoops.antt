@@ -1,17 +1,16 @@
 -- One digit more, for the loops that read and write digits.
 -- Assumes nothing.
 use Prim.Native.Nat.{ℕ, suc, ◌+◌, ◌*◌, ◌-◌, ◌/◌, ◌%◌, ◌≤◌, ◌<◌}
-use mathlib.Core.Path.{◌≡◌, ap, ◌∙◌}
-use mathlib.Core.Bool.{cond}
+use mathlib.Core.Path.{◌≡◌, refl, ap, ◌∙◌}
+use mathlib.Core.Bool.{true, false, cond}
 use mathlib.Core.List.{List}
 use Rattle.std.proofs.Common.{None, Some}
 use native.Mathlib.Omega.{arith}
 use lib.ListN.{length, drop, get_or, set, drop_of_length-le}
-use borrow.Author.Tests.{le-leb, lt-leb}
+use Rattle.std.specs.Char.{is_ascii_digit}
 use Rattle.octets.specs.Kinds.{is_digit}
 use Rattle.octets.specs.Decimal.{number_from, decimal}
 use Rattle.octets.specs.Copy.{over}
-use Rattle.octets.proofs.Bools.{and-false}
 use Rattle.octets.proofs.Lists.{next}
 use Rattle.octets.proofs.Copies.{one_byte, last-first}
 use Rattle.octets.proofs.Decimals.{ten_to, ten-grows, decimal-one, decimal-more, decimal-longer}
@@ -36,17 +35,16 @@ module _ (s : List ℕ) (i v : ℕ) (h : i < length s) where
   unfolding number_from
   number-next = ap (number_from v) (next s i h)
 
-  pub below-digits : get_or s i 0 < 48 → number_from v (drop i s) ≡ None
-  unfolding is_digit
-  below-digits l = number-next ∙ rw (lt-leb 48 (get_or s i 0) l)
+  pub no-digit : is_digit (get_or s i 0) ≡ false → number_from v (drop i s) ≡ None
+  no-digit e = number-next ∙ rw e
 
-  pub above-digits : 57 < get_or s i 0 → number_from v (drop i s) ≡ None
-  unfolding is_digit
-  above-digits l = number-next ∙ rw (lt-leb (get_or s i 0) 57 l, and-false)
+  pub digit-more : is_digit (get_or s i 0) ≡ true → number_from v (drop i s) ≡ number_from (v * 10 + (get_or s i 0 - 48)) (drop (i + 1) s)
+  digit-more e = number-next ∙ rw e
 
-  pub digit-more : 48 ≤ get_or s i 0 → get_or s i 0 ≤ 57 → number_from v (drop i s) ≡ number_from (v * 10 + (get_or s i 0 - 48)) (drop (i + 1) s)
-  unfolding is_digit
-  digit-more lo hi = number-next ∙ rw (le-leb 48 (get_or s i 0) lo, le-leb (get_or s i 0) 57 hi)
+-- the library's test of a digit
+pub digit-tested : (b : ℕ) → is_ascii_digit b ≡ is_digit b
+unfolding is_digit
+digit-tested b = refl
 
 -- no byte is left after the number v
 pub number-end : (s : List ℕ) (i v : ℕ) → length s ≤ i → number_from v (drop i s) ≡ Some v

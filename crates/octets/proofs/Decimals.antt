@@ -9,11 +9,11 @@ use Rattle.std.proofs.Common.{None, Some}
 use native.Mathlib.Omega.{arith}
 use lib.Dec.{leb, ltb, eqb}
 use lib.ListN.{length, length-append}
-use borrow.Author.Tests.{ltb-true, ltb-false, lt-ltb, le-ltb, le-leb, lt-leb, leb-true, eqb-true, eqb-false}
+use borrow.Author.Tests.{ltb-true, ltb-false, lt-ltb, le-ltb, le-leb, leb-true, eqb-true, eqb-false}
 use Rattle.octets.specs.Kinds.{is_digit, within}
 use Rattle.octets.specs.Scan.{all_of}
 use Rattle.octets.specs.Decimal.{number_from, number_of, digits_in, decimal, Says, plain, zero_before}
-use Rattle.octets.proofs.Bools.{and_left, and_right, and-false}
+use Rattle.octets.proofs.Bools.{and_left, and_right}
 
 -- what holds of the digits of n in front of s: of n below 10, and of n from those of n / 10 in front of one more digit
 pub digits :
@@ -110,21 +110,12 @@ number-decimal n =
     (λ n s t h ih. ih ∙ number-digit (n / 10) (n % 10) n s (omega arith) (omega arith))
     n n [] (omega arith)
 
--- a number between two others, and one above both
+-- a number between two others
 inside : (a z n : ℕ) → a ≤ n → n ≤ z → within a z n ≡ true
 inside a z n h l = rw (le-leb a n h, le-leb n z l)
 
-above : (a z n : ℕ) → z < n → within a z n ≡ false
-above a z n h = rw (lt-leb n z h, and-false)
-
 pub number-some : (s : List ℕ) → 0 < length s → length s ≤ 10 → number_of s ≡ number_from 0 s
 number-some s h l = ap (λ (t : Bool). cond t (number_from 0 s) None) (inside 1 _ (length s) h l)
-
-pub number-empty : (s : List ℕ) → length s ≡ 0 → number_of s ≡ None
-number-empty s h = rw h
-
-pub number-long : (s : List ℕ) → 10 < length s → number_of s ≡ None
-number-long s h = ap (λ (t : Bool). cond t (number_from 0 s) None) (above 1 _ (length s) h)
 
 says-number : {n : ℕ} {v : List ℕ} → Says n v → (0 < length v) × (number_from 0 v ≡ Some n)
 unfolding number_from is_digit

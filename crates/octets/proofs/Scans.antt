@@ -3,7 +3,7 @@
 use mathlib.Core.Path.{◌≡◌, refl, sym, ap, ◌∙◌}
 use mathlib.Core.Bool.{Bool, true, false, cond, ◌&&◌}
 use mathlib.Core.List.{List, [], ◌∷◌}
-use Prim.Native.Nat.{ℕ, zero, suc, ◌+◌, ◌-◌, ◌≤◌, ◌<◌}
+use Prim.Native.Nat.{ℕ, zero, suc, ◌+◌, ◌≤◌, ◌<◌}
 use native.Mathlib.Omega.{arith}
 use native.Mathlib.Nat.{le_refl}
 use lib.Dec.{leb, leb-zero, leb-suc-zero, leb-suc-suc, eqb, eqb-suc-suc, eqb-zero-suc}
@@ -11,7 +11,7 @@ use lib.Seq.{take-length}
 use lib.ListN.{length, take, drop, get_or, length-drop, drop_of_length-le}
 use Rattle.octets.specs.Scan.{run, all_of, count}
 use Rattle.octets.proofs.Bools.{and_right}
-use Rattle.octets.proofs.Lists.{next, next-four}
+use Rattle.octets.proofs.Lists.{next}
 
 module _ (p : ℕ → Bool) (s : List ℕ) (i : ℕ) where
   pub run-stop : i < length s → p (get_or s i 0) ≡ false → run p (drop i s) ≡ 0
@@ -25,13 +25,6 @@ module _ (p : ℕ → Bool) (s : List ℕ) (i : ℕ) where
   pub run_none : length s ≤ i → run p (drop i s) ≡ 0
   unfolding run
   run_none h = rw (drop_of_length-le s h)
-
--- the run from i on, by the tests of the four bytes there
-pub run-four :
-    (p : ℕ → Bool) (s : List ℕ) (i : ℕ) {t₀ t₁ t₂ t₃ : Bool} → 4 ≤ length s - i → p (get_or s i 0) ≡ t₀ → p (get_or s (i + 1) 0) ≡ t₁ → p (get_or s (i + 2) 0) ≡ t₂ → p (get_or s (i + 3) 0) ≡ t₃
-    → run p (drop i s) ≡ cond t₀ (suc (cond t₁ (suc (cond t₂ (suc (cond t₃ (suc (run p (drop (i + 4) s))) 0)) 0)) 0)) 0
-unfolding run
-run-four p s i h e₀ e₁ e₂ e₃ = ap (run p) (next-four s i h) ∙ simp (e₀, e₁, e₂, e₃)
 
 pub run-le : (p : ℕ → Bool) (s : List ℕ) → run p s ≤ length s
 unfolding run

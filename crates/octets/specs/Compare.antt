@@ -1,6 +1,6 @@
 -- Equal bytes, exactly and letter case aside.
 -- Assumes nothing.
-use Rattle.std.specs.Prelude.{ℕ, ◌+◌, ◌-◌, Bool, true, false, cond, ◌&&◌, List, [], ◌∷◌, map, eqb}
+use Rattle.std.specs.Prelude.{ℕ, ◌+◌, ◌-◌, ◌<◌, ◌≡◌, Bool, true, false, cond, ◌&&◌, List, [], ◌∷◌, map, eqb}
 use Rattle.octets.specs.Kinds.{within}
 
 -- "Names compare byte by byte"
@@ -21,3 +21,7 @@ upper_of b = cond (within 97 122 b) (b - 32) b
 -- "compared letter case aside"
 abbrev pub same_letters : List ℕ → List ℕ → Bool
 same_letters a b = same_bytes (map lower_of a) (map lower_of b)
+
+-- what a call at a byte can give is what f says
+abbrev pub Gives : (ℕ → ℕ → Type 0) → (ℕ → ℕ) → Type 0
+Gives made f = (b : ℕ) (r : ℕ) → b < 256 → made b r → r ≡ f b

@@ -7,12 +7,9 @@ pub fn put(out: &mut [u8], at: usize, src: &[u8]) -> usize
     requires { at + length src.now ≤ length out.old }
     ensures { Wrote out.old at src.now out.new result }
 {
-    let mut i: usize = 0;
-    while i < src.len() {
-        out[at + i] = src[i];
-        i += 1;
-    }
-    at + i
+    let end = at + src.len();
+    out[at..end].copy_from_slice(src);
+    end
 }
 
 // Moves the bytes from..to of a buffer to its front.
@@ -24,9 +21,7 @@ pub fn move_front(buf: &mut [u8], from: usize, to: usize)
         return;
     }
     let n = to - from;
-    let mut i: usize = 0;
-    while i < n {
+    for i in 0..n {
         buf[i] = buf[from + i];
-        i += 1;
     }
 }

@@ -7,18 +7,12 @@ ghost use Rattle.octets.specs.Copy.{Wrote};
 pub fn read(s: &[u8]) -> Option<u64>
     ensures { result ≡ number_of s.now }
 {
-    if s.len() == 0 {
-        return None;
-    }
-    if 10 < s.len() {
+    if s.is_empty() || 10 < s.len() {
         return None;
     }
     let mut v: u64 = 0;
     for &b in s {
-        if b < b'0' {
-            return None;
-        }
-        if b'9' < b {
+        if !b.is_ascii_digit() {
             return None;
         }
         v = v * 10 + u64::from(b - b'0');
@@ -32,6 +26,7 @@ pub fn digits(n: u64) -> usize
 {
     let mut m = n;
     let mut count: usize = 1;
+    // a while: how often it runs is what is counted
     while 10 <= m {
         m /= 10;
         count += 1;
@@ -47,6 +42,7 @@ pub fn write(out: &mut [u8], at: usize, n: u64) -> usize
     let end = at + digits(n);
     let mut i = end - 1;
     let mut m = n;
+    // a while: from the last digit to the first, while there is more than one
     while 10 <= m {
         out[i] = b'0' + (m % 10) as u8;
         m /= 10;

@@ -34,11 +34,9 @@ pub fn is_kind(kind: Kind, b: u8) -> bool
 }
 
 // Whether b is a space or a tab.
+#[tactic(auto, unfolding(crate::specs::Kinds::is_blank))]
 pub fn is_blank(b: u8) -> bool
     ensures { result ≡ is_blank b }
 {
-    if b == b' ' {
-        return true;
-    }
-    b == b'\t'
+    b == b' ' || b == b'\t'
 }

@@ -1,14 +1,7 @@
 use mathlib.Core.Path.{sym, ◌∙◌}
-use Rattle.octets.proofs.Compares.{exactly, other_length}
+use borrow.Author.Tests.{ne_eqb}
+use Rattle.octets.proofs.Compares.{other-lengths}
 use Rattle.octets.proofs.compare.same.Goals as goal
 
-pub returns-then-a-b : goal.returns-then-a-b
-returns-then-a-b c =
-    let a = c.args in
-    sym (exactly _ _ ∙ other_length (λ x. x) a.a.now a.b.now c.if-a-b.true)
-
-pub equal_bytes-requires : goal.equal_bytes-requires
-equal_bytes-requires c = c.if-a-b.false
-
-pub returns : goal.returns
-returns c = c.equal_bytes.ensures
+pub returns-else-a-b : goal.returns-else-a-b
+returns-else-a-b c = ne_eqb _ _ c.if-a-b.false ∙ sym (other-lengths c.args.a.now c.args.b.now c.if-a-b.false)

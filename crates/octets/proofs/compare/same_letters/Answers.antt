@@ -1,15 +1,8 @@
-use mathlib.Core.Path.{sym}
+use mathlib.Core.Path.{sym, ◌∙◌}
+use borrow.Author.Tests.{ne_eqb}
 use Rattle.octets.proofs.Compares.{other_length}
 use Rattle.octets.specs.Compare.{lower_of}
 use Rattle.octets.proofs.compare.same_letters.Goals as goal
 
-pub returns-then-a-b : goal.returns-then-a-b
-returns-then-a-b c =
-    let a = c.args in
-    sym (other_length lower_of a.a.now a.b.now c.if-a-b.true)
-
-pub equal_letters-requires : goal.equal_letters-requires
-equal_letters-requires c = c.if-a-b.false
-
-pub returns : goal.returns
-returns c = c.equal_letters.ensures
+pub returns-else-a-b : goal.returns-else-a-b
+returns-else-a-b c = ne_eqb _ _ c.if-a-b.false ∙ sym (other_length lower_of c.args.a.now c.args.b.now c.if-a-b.false)

@@ -1,28 +1,20 @@
 use mathlib.Core.Path.{sym, ◌∙◌}
 use native.Mathlib.Omega.{arith}
-use Rattle.octets.proofs.Decimals.{ten_to, number-empty, number-long, number-some}
-use Rattle.octets.proofs.DecimalLoops.{ten-more, ten-most, below-digits, above-digits, digit-more, number-end}
+use borrow.Author.Tests.{eqb-false}
+use Rattle.octets.proofs.Decimals.{ten_to, number-some}
+use Rattle.octets.proofs.DecimalLoops.{ten-more, ten-most, no-digit, digit-tested, digit-more, number-end}
 use Rattle.octets.proofs.decimal.read.Goals as goal
-
-pub returns-then-s-eq0 : goal.returns-then-s-eq0
-returns-then-s-eq0 c = sym (number-empty c.args.s.now c.if-s-eq0.true)
-
-pub returns-then-s-gt10 : goal.returns-then-s-gt10
-returns-then-s-gt10 c = sym (number-long c.args.s.now (omega (arith, c.if-s-gt10.true)))
 
 pub loop-b-init : goal.loop-b-init
 unfolding ten_to
-loop-b-init c = (omega (arith, c.if-s-gt10.false), omega arith, number-some _ (omega arith) (omega (arith, c.if-s-gt10.false)))
+loop-b-init c =
+    let some = eqb-false _ _ (sym c.is_empty.ensures ∙ c.if-is_empty.false) in
+    (omega (arith, c.if-s-gt10.false), omega arith, number-some _ (omega (arith, some)) (omega (arith, c.if-s-gt10.false)))
 
-pub returns-then-b-lt48 : goal.returns-then-b-lt48
-returns-then-b-lt48 c =
+pub returns-then-not-is_ascii_digit : goal.returns-then-not-is_ascii_digit
+returns-then-not-is_ascii_digit c =
     let l = c.loop-b in
-    sym (l.invariant.2 ∙ below-digits _ _ _ c.loop-b-test.true c.if-b-lt48.true)
-
-pub returns-then-b-gt57 : goal.returns-then-b-gt57
-returns-then-b-gt57 c =
-    let l = c.loop-b in
-    sym (l.invariant.2 ∙ above-digits _ _ _ c.loop-b-test.true c.if-b-gt57.true)
+    sym (l.invariant.2 ∙ no-digit _ _ _ c.loop-b-test.true (sym (digit-tested _) ∙ sym c.is_ascii_digit.ensures.value ∙ c.if-not-is_ascii_digit.true))
 
 pub overflow_mul-v : goal.overflow_mul-v
 overflow_mul-v c =
@@ -37,8 +29,8 @@ overflow_add-v c =
 pub loop-b-preserved : goal.loop-b-preserved
 loop-b-preserved c = (
   c.loop-b.invariant.0,
-  ten-more _ _ _ c.loop-b.invariant.1 (omega arith),
-  rw c.from.ensures (c.loop-b.invariant.2 ∙ digit-more _ _ _ c.loop-b-test.true c.if-b-lt48.false c.if-b-gt57.false),
+  ten-more _ _ _ c.loop-b.invariant.1 (omega (arith, c.if-not-is_ascii_digit.ensures.cases)),
+  rw c.from.ensures (c.loop-b.invariant.2 ∙ digit-more _ _ _ c.loop-b-test.true (sym (digit-tested _) ∙ sym c.is_ascii_digit.ensures.value ∙ c.if-not-is_ascii_digit.false)),
 )
 
 pub returns : goal.returns

@@ -9,17 +9,14 @@ use Rattle.octets.proofs.trim.kept_len.Goals as goal
 pub loop-n-init : goal.loop-n-init
 loop-n-init c = (omega arith, sym (ap kept (from c.args.s.now c.args.from)))
 
-pub returns-then-not-is_blank : goal.returns-then-not-is_blank
-returns-then-not-is_blank c =
-    sym (c.loop-n.invariant.1 ∙ last-kept _ _ _ c.loop-n-test.true c.loop-n.invariant.0 (sym c.is_blank.ensures ∙ c.if-not-is_blank.true))
-
-pub loop-n-smaller : goal.loop-n-smaller
-loop-n-smaller c = omega arith
-
 pub loop-n-preserved : goal.loop-n-preserved
 loop-n-preserved c =
-    (omega arith, c.loop-n.invariant.1 ∙ last-blank _ _ _ c.loop-n-test.true c.loop-n.invariant.0 (sym c.is_blank.ensures ∙ c.if-not-is_blank.false))
+    (omega arith, c.loop-n.invariant.1 ∙ last-blank _ _ _ c.loop-n-test.true c.loop-n.invariant.0 (sym c.is_blank.ensures ∙ c.if-is_blank.true))
 
-pub returns : goal.returns
-returns c =
+pub returns-else-is_blank : goal.returns-else-is_blank
+returns-else-is_blank c =
+    sym (c.loop-n.invariant.1 ∙ last-kept _ _ _ c.loop-n-test.true c.loop-n.invariant.0 (sym c.is_blank.ensures ∙ c.if-is_blank.false))
+
+pub returns-after-loop-n : goal.returns-after-loop-n
+returns-after-loop-n c =
     omega (arith, kept-take c.loop-n.n (drop c.args.from c.args.s.now), c.loop-n.invariant.1)
