@@ -1,6 +1,6 @@
 use mathlib.Core.Path.{sym, ap, ◌∙◌}
 use Prim.Native.Nat.{◌+◌}
-use native.Mathlib.Nat.{zero-add, add-zero}
+use native.Mathlib.Nat.{add-zero}
 use native.Mathlib.Omega.{arith}
 use lib.ListN.{length}
 use borrow.Author.Rules.{rules}
@@ -14,9 +14,6 @@ use Rattle.headers.proofs.block.count_headers.Goals.{In_ok-h}
 -- the header that was found at i
 found : (c : In_ok-h) → HeaderFound c.args.block.now c.loop-i.i (gives c.in_ok-h.h)
 found c = found_at _ _ _ c.loop-i-test.true c.in_ok-h.ensures
-
-pub loop-i-init : goal.loop-i-init
-loop-i-init c = (search rules, search rules, then_same (parsed c.args.block.now) _ _ (λ hs. ap gives (sym (zero-add (length hs)))))
 
 pub returns-in_err-h : goal.returns-in_err-h
 returns-in_err-h c =

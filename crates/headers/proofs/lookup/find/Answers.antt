@@ -1,6 +1,6 @@
 use mathlib.Core.Path.{sym}
 use borrow.Author.Rules.{rules}
-use Rattle.headers.proofs.Lookups.{well-counted, count-refused}
+use Rattle.headers.proofs.Lookups.{count-refused}
 use Rattle.headers.specs.Lookup.{lookup_of}
 use Rattle.headers.proofs.lookup.find.Goals as goal
 
@@ -9,8 +9,3 @@ unfolding lookup_of
 returns-in_err-count_headers c =
     let e = c.in_err-count_headers.ensures in
     rw (count-refused _ _ _ (sym e)) (search rules)
-
-pub seek-requires : goal.seek-requires
-seek-requires c =
-    let d = c.in_ok-count_headers.ensures in
-    well-counted _ _ (sym d)

@@ -25,9 +25,6 @@ returns-in_err-h c =
 pub overflow_sub-h : goal.overflow_sub-h
 overflow_sub-h c = omega (arith, (found (goal.at.overflow_sub-h c).In_ok-h).order)
 
-pub overflow_add-n : goal.overflow_add-n
-overflow_add-n c = omega (arith, c.loop-i.invariant.1.few)
-
 pub overflow_add-i : goal.overflow_add-i
 overflow_add-i c = omega (arith, (found (goal.at.overflow_add-i c).In_ok-h).order)
 

@@ -3,9 +3,6 @@ use Rattle.response.proofs.Tables.{stated, some-body, redirected}
 use Rattle.response.proofs.table.redirect.Goals as goal
 use Rattle.response.proofs.table.redirect.Goals.{then-is_some-via-then-is_some, then-is_some-via-else-is_some+then-body-ne0}
 
-pub returns-then-typed : goal.returns-then-typed
-returns-then-typed c = λ n. rw c.if-typed.true (c.redirect_document.ensures n)
-
 pub returns-then-is_some : goal.returns-then-is_some
 returns-then-is_some c =
     λ n.

@@ -11,11 +11,6 @@ returns-in_err-n c =
     let f = c.in_err-n.ensures in
     rw (no-count _ _ (sym f.count)) (search rules)
 
-pub check_large-requires : goal.check_large-requires
-check_large-requires c =
-    let f = c.in_ok-n.ensures in
-    sym f.count
-
 pub new-stored-requires : goal.new-stored-requires
 new-stored-requires c =
     let f = c.in_ok-n.ensures in
@@ -26,9 +21,6 @@ returns-then-not-differ c =
     let f = c.in_ok-n.ensures in
     let d = rw c.new-stored.ensures.block at c.differ.ensures in
     sym (equal-names _ _ (sym f.count) (omega (arith, c.if-n-gt32.false)) (d ∙ ap gives c.if-not-differ.true))
-
-pub check_rest-requires : goal.check_rest-requires
-check_rest-requires c = c.differ.ensures ∙ ap gives c.if-not-differ.false
 
 pub returns : goal.returns
 returns c =

@@ -16,9 +16,6 @@ returns-then-not-differ_by_length c =
     let d = rw c.new-stored.ensures.block at c.differ_by_length.ensures in
     sym (equal-names _ _ c.requires c.if-n-gt128.false (d ∙ ap gives c.if-not-differ_by_length.true))
 
-pub check_rest-requires : goal.check_rest-requires
-check_rest-requires c = c.differ_by_length.ensures ∙ ap gives c.if-not-differ_by_length.false
-
 pub returns : goal.returns
 returns c =
     let d = rw c.new-stored.ensures.block at c.differ_by_length.ensures in

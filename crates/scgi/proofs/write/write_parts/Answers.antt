@@ -5,7 +5,7 @@ use Prim.Native.Nat.{◌+◌, ◌≤◌}
 use lib.ListN.{length, length-append}
 use Rattle.octets.proofs.Copies.{and_then}
 use Rattle.octets.proofs.Decimals.{decimal-short}
-use Rattle.scgi.proofs.WriteSteps.{no_room, has_room, size_is}
+use Rattle.scgi.proofs.WriteSteps.{has_room, size_is}
 use Rattle.scgi.specs.Grammar.{netstring}
 use Rattle.scgi.proofs.write.write_parts.Goals as goal
 use Rattle.scgi.proofs.write.write_parts.Goals.{After-digits, Else-out-size}
@@ -29,15 +29,6 @@ overflow_add-size-2 c = omega (arith, small c)
 
 pub overflow_add-size-3 : goal.overflow_add-size-3
 overflow_add-size-3 c = omega (arith, small c)
-
-pub returns-then-out-size : goal.returns-then-out-size
-returns-then-out-size c = no_room (netstring c.args.block.now ++ c.args.body.now) c.args.out.now (omega (arith, size (goal.at.returns-then-out-size c).After-digits))
-
-pub put_netstring-at-requires : goal.put_netstring-at-requires
-put_netstring-at-requires c = omega (arith, room (goal.at.put_netstring-at-requires c).Else-out-size, length-append (netstring c.args.block.now) c.args.body.now)
-
-pub put_large-requires : goal.put_large-requires
-put_large-requires c = omega (arith, room (goal.at.put_large-requires c).Else-out-size, length-append (netstring c.args.block.now) c.args.body.now, c.put_netstring-at.ensures.ends)
 
 pub returns : goal.returns
 returns c =
