@@ -15,29 +15,15 @@ mod mount_limits; // the step: a limit of the body for each mount
 mod edition_cases; // script response heads under both editions
 
 fn main(rt: HostRuntime) {
-    let stdout = rt.stdout();
-    scgi_cases::reader(stdout);
-    scgi_cases::reader_order(stdout);
-    scgi_cases::writer(stdout);
-    lookup_cases::one_block(stdout);
-    lookup_cases::two_blocks(stdout);
-    http_cases::heads(stdout);
-    http_cases::request_lines(stdout);
-    http_cases::targets(stdout);
-    http_cases::field_cases(stdout);
-    http_cases::fields_of_heads(stdout);
-    response_cases::rows(stdout);
-    response_cases::malformed(stdout);
-    response_cases::contradictions_of_fields(stdout);
-    response_cases::contradictions_of_rows(stdout);
-    response_cases::most_lines(stdout);
-    response_cases::longest_head(stdout);
-    response_cases::too_long_head(stdout);
-    gateway_cases::all(stdout);
-    gateway_lent::all(stdout);
-    gateway_order::all(stdout);
-    gateway_limits::all(stdout);
-    digits::all(stdout);
-    mount_limits::all(stdout);
-    edition_cases::all(stdout);
+    scgi_cases::all(&rt);
+    lookup_cases::all(&rt);
+    http_cases::all(&rt);
+    response_cases::all(&rt);
+    gateway_cases::all(&rt);
+    gateway_lent::all(&rt);
+    gateway_order::all(&rt);
+    gateway_limits::all(&rt);
+    digits::all(&rt);
+    mount_limits::all(&rt);
+    edition_cases::all(&rt);
 }
