@@ -69,6 +69,7 @@ fn put_name(out: &mut [u8], at: usize, name: &[u8]) -> usize
     requires { at + length name.now ≤ length out.old }
     ensures { Wrote out.old at (map variable_byte (map lower_of name.now)) out.new result }
 {
+    // An index for two slices: of what is written by way of `iter_mut` a proof knows nothing.
     for i in 0..name.len() {
         out[at + i] = variable_byte(name[i]);
     }
