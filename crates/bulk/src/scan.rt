@@ -3,7 +3,8 @@ ghost use Rattle.std.specs.Prelude.{ℕ, Bool, ◌≡◌, ◌+◌, ◌≤◌, le
 ghost use Rattle.octets.specs.Kinds.{is_value};
 ghost use Rattle.octets.specs.Scan.{run, all_of, other, Tests};
 
-use octets::scan::{end_of, find};
+use octets::kinds::Kind;
+use octets::scan::{find, run_end};
 
 // Whether each of the sixteen bytes from i on passes a test. The loop has no way out, so that the compiler tests them at once.
 fn sixteen_pass<F: Fn(u8) -> bool>(s: &[u8], i: usize, passes: F) -> bool
@@ -17,17 +18,17 @@ fn sixteen_pass<F: Fn(u8) -> bool>(s: &[u8], i: usize, passes: F) -> bool
     good
 }
 
-// The end of the bytes from a place on that pass a test. For runs of sixteen bytes and more; `end_of` of octets for shorter ones.
-// A while, since it goes on by sixteen.
-fn far_end<F: Fn(u8) -> bool>(s: &[u8], from: usize, passes: F) -> usize
+// A place up to which the bytes from a place on pass a test; sixteen are tested at once. A while, since it goes on by sixteen.
+fn skip<F: Fn(u8) -> bool>(s: &[u8], from: usize, passes: F) -> usize
     requires { F.IsAlwaysCallable passes × (from ≤ length s.now) }
-    ensures { (p : ℕ → Bool) → Tests (F.post passes) p → result ≡ from + run p (drop from s.now) }
+    ensures within { result ≤ length s.now }
+    ensures passed { (p : ℕ → Bool) → Tests (F.post passes) p → from + run p (drop from s.now) ≡ result + run p (drop result s.now) }
 {
     let mut i = from;
     while 16 <= s.len() - i && sixteen_pass(s, i, &passes) {
         i += 16;
     }
-    end_of(s, i, passes)
+    i
 }
 
 // Whether b is a byte of a value. Written without a branch, so that the compiler tests sixteen bytes at once.
@@ -42,7 +43,7 @@ pub fn value_end(s: &[u8], from: usize) -> usize
     requires { from ≤ length s.now }
     ensures { result ≡ from + run is_value (drop from s.now) }
 {
-    far_end(s, from, is_value)
+    run_end(Kind::Value, s, skip(s, from, is_value))
 }
 
 // The first place of b at or after from, or the length of s. For bytes that are sixteen places off and more; `find` of octets for nearer ones.
@@ -50,7 +51,7 @@ pub fn find_far(s: &[u8], from: usize, b: u8) -> usize
     requires { from ≤ length s.now }
     ensures { result ≡ from + run (other b) (drop from s.now) }
 {
-    far_end(s, from, |x| x != b)
+    find(s, skip(s, from, |x| x != b), b)
 }
 
 // The same for a byte that may be near: of sixteen bytes by `find`, and then by sixteen at once.

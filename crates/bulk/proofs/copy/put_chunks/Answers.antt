@@ -17,9 +17,9 @@ pub loop-i-preserved : goal.loop-i-preserved
 loop-i-preserved c =
     let a = c.args in
     let room : c.loop-i.i + 16 ≤ length a.src.now = omega (arith, c.requires.0) in
-    (room, search rules, chunk-then a.src.now c.loop-i.i c.loop-i.invariant.2 c.requires.1 _ _ 16 room (rw (part a.src.now c.loop-i.i 16) at c.put.ensures))
+    (room, search rules, chunk-then a.src.now c.loop-i.i c.loop-i.invariant.2 c.requires.1 _ _ 16 room (rw (part a.src.now c.loop-i.i 16) at c.put_at_once.ensures))
 
 pub returns : goal.returns
 returns c =
     let a = c.args in
-    and_again (length a.src.now - 16) c.loop-i.i c.loop-i.invariant.2 (omega arith) c.loop-i.invariant.0 c.requires.1 _ _ (rw (from a.src.now (length a.src.now - 16)) at c.put-2.ensures)
+    and_again (length a.src.now - 16) c.loop-i.i c.loop-i.invariant.2 (omega arith) c.loop-i.invariant.0 c.requires.1 _ _ (rw (from a.src.now (length a.src.now - 16)) at c.put_at_once-2.ensures)

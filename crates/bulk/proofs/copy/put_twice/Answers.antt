@@ -9,4 +9,4 @@ pub returns : goal.returns
 returns g c =
     let s = c.args.src.now in
     let last = length s - g.row.N in
-    and_again last g.row.N c.put.ensures (omega arith) c.requires.0 c.requires.1 _ _ (rw (from s last) at c.put-2.ensures)
+    and_again last g.row.N c.put_at_once.ensures (omega arith) c.requires.0 c.requires.1 _ _ (rw (from s last) at c.put_at_once-2.ensures)

@@ -1,7 +1,7 @@
 use mathlib.Core.Path.{sym, ◌∙◌}
 use native.Mathlib.Omega.{arith}
 use Rattle.octets.proofs.Chunks.{run-chunk}
-use Rattle.bulk.proofs.scan.far_end.Goals as goal
+use Rattle.bulk.proofs.scan.skip.Goals as goal
 
 pub loop-i-preserved : goal.loop-i-preserved
 loop-i-preserved g c = (
