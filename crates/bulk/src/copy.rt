@@ -54,11 +54,3 @@ pub fn put_any(out: &mut [u8], at: usize, src: &[u8]) -> usize
         _ => put_chunks(out, at, src),
     }
 }
-
-// The same as put, for many bytes.
-pub fn put_large(out: &mut [u8], at: usize, src: &[u8]) -> usize
-    requires { at + length src.now ≤ length out.old }
-    ensures { Wrote out.old at src.now out.new result }
-{
-    put(out, at, src)
-}

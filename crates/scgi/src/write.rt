@@ -5,7 +5,6 @@ ghost use Rattle.scgi.specs.Grammar.{netstring};
 ghost use Rattle.scgi.specs.Write.{in_room, WrittenOut, Written};
 
 use crate::check::check_block;
-use bulk::copy::put_large;
 use octets::copy::put;
 use octets::decimal;
 use octets::refusal::Refusal;
@@ -17,7 +16,7 @@ fn put_netstring(out: &mut [u8], block: &[u8]) -> usize
 {
     let a = decimal::write(out, 0, block.len() as u64);
     let b = put(out, a, b":");
-    let c = put_large(out, b, block);
+    let c = put(out, b, block);
     put(out, c, b",")
 }
 
@@ -31,7 +30,7 @@ pub fn write_parts(block: &[u8], body: &[u8], out: &mut [u8]) -> Result<usize, R
         return Err(Refusal::NoRoom);
     }
     let at = put_netstring(out, block);
-    Ok(put_large(out, at, body))
+    Ok(put(out, at, body))
 }
 
 // Writes the request of a block and a body to the start of out.

@@ -34,4 +34,4 @@ pub returns : goal.returns
 returns c =
     let a = c.args in
     has_room (netstring a.block.now ++ a.body.now) a.out.now _ _ (room (goal.at.returns c).Else-out-size)
-    (and_then c.put_netstring-at.ensures (omega (arith, room (goal.at.returns c).Else-out-size, length-append (netstring a.block.now) a.body.now)) _ _ _ c.put_large.ensures)
+    (and_then c.put_netstring-at.ensures (omega (arith, room (goal.at.returns c).Else-out-size, length-append (netstring a.block.now) a.body.now)) _ _ _ c.put.ensures)
