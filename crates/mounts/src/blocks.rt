@@ -1,5 +1,5 @@
 // Whether a lent block is what each of the three must be.
-ghost use Rattle.std.specs.Prelude.{length};
+ghost use Rattle.std.specs.Prelude.{◌≡◌, length, IfOk};
 ghost use Rattle.mounts.specs.Blocks.{BlockFound};
 
 use headers::names::{Names, store_names};
@@ -20,7 +20,8 @@ pub fn store_block<'a>(
     limit: usize,
     places: &'a mut [Span],
 ) -> Result<Names<'a>, Unfit>
-    ensures { BlockFound limit (length places.old) block.now result }
+    ensures found { BlockFound limit (length places.old) block.now result }
+    ensures block { IfOk result (λ names. names.block ≡ block.entry) }
 {
     if limit < block.len() {
         return Err(Unfit::Breach);

@@ -20,26 +20,26 @@ whole_as_slice-store_block-2 g c = omega (arith, c.requires)
 
 pub returns-in_err-facts_names : goal.returns-in_err-facts_names
 returns-in_err-facts_names g c =
-    let e = c.in_err-facts_names.ensures in
+    let e = c.in_err-facts_names.ensures.found in
     let z : c.from_residual.result ≡ Err c.in_err-facts_names.field-0.0 = search rules in
     rw z (rw (room g.row.N _) at (facts-unfit _ _ c.args.site.now c.args.mounts.now _ e))
 
 pub returns-in_err-site_names : goal.returns-in_err-site_names
 returns-in_err-site_names g c =
-    let f = c.in_ok-facts_names.ensures in
-    let e = c.in_err-site_names.ensures in
+    let f = c.in_ok-facts_names.ensures.found in
+    let e = c.in_err-site_names.ensures.found in
     let z : c.from_residual-in_err-site_names.result ≡ Err c.in_err-site_names.field-0.0 = search rules in
     rw z (rw (room g.row.N _) at (site-unfit _ _ _ c.args.mounts.now _ f _ e))
 
 pub returns-then-not-is_mounts : goal.returns-then-not-is_mounts
 returns-then-not-is_mounts g c =
-    let f = c.in_ok-facts_names.ensures in
-    let s = c.in_ok-site_names.ensures in
+    let f = c.in_ok-facts_names.ensures.found in
+    let s = c.in_ok-site_names.ensures.found in
     rw (room g.row.N _) at (mounts-unfit _ _ _ _ _ f _ s (sym c.is_mounts.ensures ∙ c.if-not-is_mounts.true))
 
 pub returns : goal.returns
 returns g c =
-    let f = c.in_ok-facts_names.ensures in
-    let s = c.in_ok-site_names.ensures in
+    let f = c.in_ok-facts_names.ensures.found in
+    let s = c.in_ok-site_names.ensures.found in
     rw (room g.row.N _) at
     (settled _ _ _ _ _ f _ s (sym c.is_mounts.ensures ∙ c.if-not-is_mounts.false) _ (rw (f.stored, s.stored) at c.find_settings.ensures) _ c.ok_or.ensures.value)

@@ -16,14 +16,14 @@ use Rattle.mounts.proofs.BlockSteps.{long-block, malformed-block, full_block, ro
 use Rattle.mounts.proofs.blocks.store_block.Goals as goal
 use Rattle.mounts.proofs.blocks.store_block.Goals.{Else-places-n}
 
-pub returns-then-limit-block : goal.returns-then-limit-block
-returns-then-limit-block c = record { answer = long-block _ c.args.block.now (length c.args.places.now) c.if-limit-block.true; stored = tt }
+pub returns-then-limit-block-clause-found : goal.returns-then-limit-block-clause-found
+returns-then-limit-block-clause-found c = record { answer = long-block _ c.args.block.now (length c.args.places.now) c.if-limit-block.true; stored = tt }
 
-pub returns-in_default : goal.returns-in_default
-returns-in_default c = record { answer = malformed-block _ _ (length c.args.places.now) _ (sym c.in_default.ensures.count); stored = tt }
+pub returns-in_default-clause-found : goal.returns-in_default-clause-found
+returns-in_default-clause-found c = record { answer = malformed-block _ _ (length c.args.places.now) _ (sym c.in_default.ensures.count); stored = tt }
 
-pub returns-then-places-n : goal.returns-then-places-n
-returns-then-places-n c = record { answer = full_block _ _ (length c.args.places.now) _ (sym c.in-Ok.ensures.count) c.if-limit-block.false (omega (arith, c.store_names.ensures.size)); stored = tt }
+pub returns-then-places-n-clause-found : goal.returns-then-places-n-clause-found
+returns-then-places-n-clause-found c = record { answer = full_block _ _ (length c.args.places.now) _ (sym c.in-Ok.ensures.count) c.if-limit-block.false (omega (arith, c.store_names.ensures.size)); stored = tt }
 
 pub new-names-requires : goal.new-names-requires
 new-names-requires c = names-held _ _ _ _ _ c.store_names.ensures (sym c.in-Ok.ensures.count) (omega (arith, c.store_names.ensures.size))
@@ -35,16 +35,16 @@ roomy :
     Some (need r 20 (gives c.in-Ok.n)) ≡ stored_of a.limit (length a.places.now) a.block.now)
 roomy c r d = roomy-block c.args.limit c.args.block.now (length c.args.places.now) c.in-Ok.n (sym c.in-Ok.ensures.count) c.if-limit-block.false (omega (arith, c.store_names.ensures.size)) r d
 
-pub returns-then-not-differ : goal.returns-then-not-differ
-returns-then-not-differ c =
+pub returns-then-not-differ-clause-found : goal.returns-then-not-differ-clause-found
+returns-then-not-differ-clause-found c =
     let b = ap (λ (x : Bor (List ℕ)). x.now) c.new-names.ensures.block in
-    record { answer = roomy (goal.at.returns-then-not-differ c).Else-places-n _ (rw b at c.differ.ensures ∙ ap gives c.if-not-differ.true); stored = tt }
+    record { answer = roomy (goal.at.returns-then-not-differ-clause-found c).Else-places-n _ (rw b at c.differ.ensures ∙ ap gives c.if-not-differ.true); stored = tt }
 
-pub returns : goal.returns
-returns c =
+pub returns-clause-found : goal.returns-clause-found
+returns-clause-found c =
     let b = ap (λ (x : Bor (List ℕ)). x.now) c.new-names.ensures.block in
     let n : length c.new-names.result.places.now ≡ c.in-Ok.n = ap (λ (x : Bor (List Span)). length x.now) c.new-names.ensures.places ∙ length-take-le _ _ c.if-places-n.false in
     record {
-      answer = ap (λ (k : ℕ). Some (gives k)) n ∙ roomy (goal.at.returns c).Else-places-n _ (rw b at c.differ.ensures ∙ ap gives c.if-not-differ.false);
+      answer = ap (λ (k : ℕ). Some (gives k)) n ∙ roomy (goal.at.returns-clause-found c).Else-places-n _ (rw b at c.differ.ensures ∙ ap gives c.if-not-differ.false);
       stored = b;
     }

@@ -27,7 +27,7 @@ unfit b (Err Full) f e = sym (too_many b (blocks-told.full 4096 32 b f.answer))
 unfit b (Err Breach) f e = sym (bad-block b (blocks-told.breach 4096 32 b f.answer).1)
 
 good : (c : Then-is_ok) → (let b = c.args.block.now in (lacks_room 4096 32 b ≡ false) × BlockGood 4096 b)
-good c = stored _ c.store_block.result c.store_block.ensures (sym c.is_ok.ensures.value ∙ c.if-is_ok.true)
+good c = stored _ c.store_block.result c.store_block.ensures.found (sym c.is_ok.ensures.value ∙ c.if-is_ok.true)
 
 pub all_mounts-requires : goal.all_mounts-requires
 all_mounts-requires c =
@@ -40,4 +40,4 @@ returns-then-is_ok c =
     c.all_mounts.ensures ∙ good-block _ g.0 g.1
 
 pub returns-else-is_ok : goal.returns-else-is_ok
-returns-else-is_ok c = c.if-is_ok.false ∙ unfit _ c.store_block.result c.store_block.ensures (sym c.is_ok.ensures.value ∙ c.if-is_ok.false)
+returns-else-is_ok c = c.if-is_ok.false ∙ unfit _ c.store_block.result c.store_block.ensures.found (sym c.is_ok.ensures.value ∙ c.if-is_ok.false)
