@@ -3,6 +3,7 @@ ghost use Rattle.std.specs.Prelude.{ℕ, Bool, ◌≡◌, ◌+◌, ◌≤◌, le
 ghost use Rattle.octets.specs.Kinds.{is_value};
 ghost use Rattle.octets.specs.Scan.{run, all_of, other, Tests};
 
+use memchr::memchr;
 use octets::kinds::Kind;
 use octets::scan::{find, run_end};
 
@@ -51,7 +52,10 @@ pub fn find_far(s: &[u8], from: usize, b: u8) -> usize
     requires { from ≤ length s.now }
     ensures { result ≡ from + run (other b) (drop from s.now) }
 {
-    find(s, skip(s, from, |x| x != b), b)
+    match memchr(b, &s[from..]) {
+        Some(k) => from + k,
+        None => s.len(),
+    }
 }
 
 // The same for a byte that may be near: of sixteen bytes by `find`, and then by sixteen at once.
