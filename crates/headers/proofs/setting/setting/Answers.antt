@@ -1,6 +1,6 @@
 use mathlib.Core.Path.{sym}
 use Rattle.headers.proofs.Lookups.{first_fits, second_fits}
-use Rattle.headers.proofs.setting.either.Goals as goal
+use Rattle.headers.proofs.setting.setting.Goals as goal
 
 pub of-requires : goal.of-requires
 of-requires c =
