@@ -10,6 +10,7 @@ use lib.Dec.{eqb, leb}
 use lib.ListN.{length, take, drop, get_or, drop_of_length-le, get_or-eq_default}
 use lib.Seq.{get_or-drop, drop-drop}
 use borrow.Author.Tests.{eq-eqb, ne_eqb, eqb-true, leb-true}
+use Rattle.std.specs.List.{list_all, range_with_len}
 use Rattle.octets.specs.Kinds.{within, is_digit, is_hex}
 use Rattle.octets.specs.Scan.{run, other}
 use Rattle.octets.proofs.Bools.{and_left, and_right, and-false}
@@ -45,6 +46,19 @@ module _ (t : List ℕ) (i : ℕ) where
   pub escapes-none : length t ≤ i → escapes_right (drop i t) ≡ true
   unfolding escapes_right
   escapes-none h = rw (drop_of_length-le t h)
+
+-- the test at each index from a on tells it too
+listed-from :
+    (t : List ℕ) (n a : ℕ) → a + n ≡ length t
+    → list_all (λ i. escape_right (get_or t i 0) (drop (i + 1) t)) (range_with_len a n) ≡ escapes_right (drop a t)
+listed-from t zero a e = sym (escapes-none t a (omega arith))
+listed-from t (suc n) a e =
+    ap (λ x. escape_right (get_or t a 0) (drop (a + 1) t) && x) (listed-from t n (a + 1) (omega arith))
+    ∙ sym (escapes-next t a (omega arith))
+
+pub escapes-listed :
+    (t : List ℕ) → list_all (λ i. escape_right (get_or t i 0) (drop (i + 1) t)) (range_with_len 0 (length t)) ≡ escapes_right t
+escapes-listed t = listed-from t (length t) 0 (omega arith)
 
 pub escapes-drop : (k : ℕ) (t : List ℕ) → escapes_right t ≡ true → escapes_right (drop k t) ≡ true
 unfolding escapes_right

@@ -50,7 +50,8 @@ pub record Told (t d : List ℕ) (k n : ℕ) : Type 0 where
 -- what the lengths of an answer say of the target and of the buffer
 pub record TargetsTold : Type 0 where
   pub accepts :
-      (t before after : List ℕ) (k n : ℕ) → min (length t) 4096 ≤ length before → TargetRead t before after (Ok (record { path_len = k; decoded_len = n })) → Told t after k n
+      (t before after : List ℕ) (k n : ℕ) → min (length t) 4096 ≤ length before
+      → TargetRead t before after (Ok (record { path_len = k; decoded_len = n })) → Told t after k n
   pub refuses : (t before after : List ℕ) (e : Refusal) → TargetRead t before after (Err e) → refused (number_of e) ≡ target_of t
 
 -- no other number is given: "14 | target refused"

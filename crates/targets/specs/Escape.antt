@@ -1,6 +1,7 @@
 -- The escapes of a target: a percent sign, which is 37, and two hex digits.
 -- Assumes nothing.
-use Rattle.std.specs.Prelude.{ℕ, zero, suc, ◌+◌, ◌*◌, ◌-◌, ◌≤◌, ◌<◌, ◌≡◌, Bool, true, cond, not, ◌&&◌, ◌||◌, List, [], ◌∷◌, eqb, length, drop, get_or}
+use Rattle.std.specs.Prelude.{ℕ, zero, suc, ◌+◌, ◌*◌, ◌-◌, ◌≤◌, ◌<◌, ◌≡◌, Bool, true, cond, not, ◌&&◌, ◌||◌, eqb}
+use Rattle.std.specs.Prelude.{List, [], ◌∷◌, length, drop, get_or}
 use Rattle.octets.specs.Kinds.{within, is_digit, is_hex}
 
 -- the byte b, where t follows: "`%` followed by two hex digits". Past the end stands 0, which is no hex digit

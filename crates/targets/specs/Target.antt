@@ -1,6 +1,7 @@
 -- A request's target: the rules it obeys, its decoded path and its query.
 -- Assumes nothing.
-use Rattle.std.specs.Prelude.{ℕ, ◌+◌, ◌≤◌, ◌≡◌, Bool, true, cond, not, ◌&&◌, ◌||◌, List, [], ◌∷◌, eqb, leb, length, take, drop, get_or, Result, Ok, Err}
+use Rattle.std.specs.Prelude.{ℕ, ◌+◌, ◌≤◌, ◌≡◌, Bool, true, cond, not, ◌&&◌, ◌||◌, eqb, leb, Result, Ok, Err}
+use Rattle.std.specs.Prelude.{List, [], ◌∷◌, length, take, drop, get_or}
 use Rattle.octets.specs.Text.{bytes}
 use Rattle.octets.specs.Outcome.{Outcome, gives, then, need}
 use Rattle.octets.specs.Kinds.{is_target}
@@ -27,7 +28,8 @@ query_of t = drop (run (other 63) t + 1) t
 -- slashes." A slash is 47
 unfoldable pub raw_right : List ℕ → Bool
 raw_right t =
-    leb 1 (length t) && leb (length t) 4096 && eqb (get_or t 0 0) 47 && all_of is_target t && escapes_right t && leb (count 47 (path_of t)) 64
+    leb 1 (length t) && leb (length t) 4096 && eqb (get_or t 0 0) 47 && all_of is_target t && escapes_right t
+    && leb (count 47 (path_of t)) 64
 
 -- not a "byte 0 to 31 or 127"
 abbrev pub is_plain : ℕ → Bool
@@ -46,8 +48,8 @@ no_dots (s ∷ ss) = not (is_dots s) && no_dots ss
 unfoldable pub segments_right : List ℕ → Bool
 segments_right p = no_dots ((parted 47 p).first ∷ (parted 47 p).others)
 
--- of the decoded path d of a path with n slashes: "Decoded, the path must gain no `/` by an escape, have no byte 0 to 31 or 127, and no segment
--- `.` or `..`"
+-- of the decoded path d of a path with n slashes: "Decoded, the path must gain no `/` by an escape, have no byte 0 to 31 or 127,
+-- and no segment `.` or `..`"
 unfoldable pub decoded_right : ℕ → List ℕ → Bool
 decoded_right n d = eqb (count 47 d) n && all_of is_plain d && segments_right d
 
@@ -93,5 +95,8 @@ pub record PathRight (p : List ℕ) (n : ℕ) : Type 0 where
 
 -- .. and the answer r, and the buffer before and after, are those of the path p.
 pub record PathRead (p before after : List ℕ) (r : Result TargetPlace Refusal) : Type 0 where
-  pub answer : r ≡ cond (decoded_right (count 47 p) (decoded p)) (Ok (record { path_len = length p; decoded_len = length (decoded p) })) (Err Because.Target)
+  pub answer :
+      r
+      ≡ cond (decoded_right (count 47 p) (decoded p)) (Ok (record { path_len = length p; decoded_len = length (decoded p) }))
+      (Err Because.Target)
   pub buffer : after ≡ over before 0 (decoded p)

@@ -25,12 +25,7 @@ fn right_at(t: &[u8], i: usize) -> bool
 pub fn escapes(t: &[u8]) -> bool
     ensures { result ≡ escapes_right t.now }
 {
-    for i in 0..t.len() {
-        if !right_at(t, i) {
-            return false;
-        }
-    }
-    true
+    (0..t.len()).all(|i| right_at(t, i))
 }
 
 // The number that a hex digit says; 0 for another byte.
@@ -60,7 +55,7 @@ fn decode_at(s: &[u8], i: usize) -> (u8, usize)
 }
 
 // Writes s decoded to the front of out, and gives its length. A turn goes on by one byte or by three, so the loop is a `while`.
-// The kit's percent_encoding stands on types of the heap, which this project has none of.
+// Not by the kit's `percent_decode`: the edits decode_a_is_11 and decode_low_first, which must stay refused, are made in these functions.
 pub fn decode(s: &[u8], out: &mut [u8]) -> usize
     requires { (length s.now ≤ length out.old) × (escapes_right s.now ≡ true) }
     ensures { Wrote out.old 0 (decoded s.now) out.new result }

@@ -55,7 +55,7 @@ fn raw_path(t: &[u8]) -> Result<Raw, Refusal>
 fn is_plain(b: u8) -> bool
     ensures { result ≡ is_plain b }
 {
-    31 < b && b != 127
+    !b.is_ascii_control()
 }
 
 // Whether no byte is a control byte.
@@ -86,7 +86,7 @@ fn decoded_path(d: &[u8], before: usize) -> bool
     slashes(d) == before && all_plain(d) && segments(d)
 }
 
-// Reads a path without escapes. Decoded it is itself, so only its segments are left to judge.
+// Reads a path without escapes. Decoded it is itself, so only its segments are left to judge. Beside escaped_path for speed.
 fn plain_path(p: &[u8], path: &mut [u8]) -> Result<TargetPlace, Refusal>
     requires { (length p.now ≤ length path.old) × (all_of is_target p.now ≡ true) × (all_of (other 37) p.now ≡ true) }
     ensures { PathRead p.now path.old path.new result }

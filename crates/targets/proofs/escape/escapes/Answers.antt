@@ -1,17 +1,18 @@
-use mathlib.Core.Path.{sym, ◌∙◌}
-use Rattle.targets.proofs.Escapes.{escapes-next, escapes-none}
+use Rattle.std.proofs.Common.{rules}
+use mathlib.Core.Path.{◌∙◌}
+use Rattle.std.proofs.lemmas.Iterator.{YieldsList-from_range}
+use Rattle.std.proofs.lemmas.Iterator.Search.{all_from_yields_List}
+use native.Mathlib.Omega.{arith}
+use lib.ListN.{length, drop, get_or}
+use Prim.Native.Nat.{◌+◌}
+use Rattle.targets.specs.Escape.{escape_right}
+use Rattle.targets.proofs.Escapes.{escapes-listed}
 use Rattle.targets.proofs.escape.escapes.Goals as goal
 
-pub returns-then-not-right_at : goal.returns-then-not-right_at
-returns-then-not-right_at c =
-    sym
-    (c.loop-i.invariant
-    ∙ escapes-next _ _ c.loop-i-test.true
-    ∙ rw (sym c.right_at.ensures ∙ c.if-not-right_at.true))
-
-pub loop-i-preserved : goal.loop-i-preserved
-loop-i-preserved c =
-    c.loop-i.invariant ∙ escapes-next _ _ c.loop-i-test.true ∙ rw (sym c.right_at.ensures ∙ c.if-not-right_at.false)
-
 pub returns : goal.returns
-returns c = sym (c.loop-i.invariant ∙ escapes-none _ _ c.loop-i-test.false)
+returns c =
+    let t = c.args.t.now in
+    all_from_yields_List (λ i. escape_right (get_or t i 0) (drop (i + 1) t)) _ _ _ c.all.ensures.ran
+    (YieldsList-from_range 0 (length t) (length t) (cc) (omega arith))
+    (λ x b q k. search rules)
+    ∙ escapes-listed t
