@@ -37,12 +37,12 @@ pub record Told (line : List ℕ) (x : Spans) : Type 0 where
   pub name_inside : x.name.start + x.name.len ≤ length line
   pub value_inside : x.value.start + x.value.len ≤ length line
 
+pub some_is : {A : Type 0} {a b : A} → Some a ≡ Some b → a ≡ b
+some_is e = cc
+
 pub told : (line : List ℕ) (x : Spans) → Some x ≡ spans_of is_token line → Told line x
 told line x = by (field_of is_token line) refl
   where
-    some_is : {a b : Spans} → Some a ≡ Some b → a ≡ b
-    some_is e = cc
-
     by : (o : Option Field) → field_of is_token line ≡ o → Some x ≡ spans_if o line → Told line x
     by None p q = absurd (let z : ◌≡◌ {A = ℕ} 0 1 = cc in omega arith)
     by (Some f) p q =

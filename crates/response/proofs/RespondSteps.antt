@@ -17,6 +17,7 @@ use Rattle.response.specs.Location.{filled, location_right}
 use Rattle.response.specs.Table.{script_of, table_of}
 use Rattle.response.specs.Response.{named, at_most_once, each_once, is_there, judged, response_of}
 use Rattle.response.specs.declared.head.HeadPlace.{HeadPlace}
+use Rattle.response.proofs.FieldPlaces.{some_is}
 use Rattle.response.proofs.Lies.{HeadIn, head_in}
 use Rattle.response.proofs.Seens.{marks_from, seen-marks, seen-in, value_of, once-marks}
 
@@ -41,9 +42,6 @@ no-head s = by (head_with 64 (lines_at 0 (take 8192 s))) refl
     by : (o : Option Head) → head_with 64 (lines_at 0 (take 8192 s)) ≡ o → seen_head o ≡ None → response_of s ≡ refused 24
     by None p e = rw p
     by (Some h) p e = cc
-
-some_is : {a b : HeadPlace} → Some a ≡ Some b → a ≡ b
-some_is e = cc
 
 -- the head of which the numbers and the marks are kept
 pub record Got (s : List ℕ) (p : HeadPlace) : Type 0 where

@@ -1,7 +1,7 @@
 // The head of a script's response, and the action that it asks of the server.
 //
-// How often a head is passed over: once for its LFs, and once line by line for its fields (http_head::fields::field_line). A name is compared
-// with three names, and of the three fields the values are judged at the end.
+// How often a head is passed over: once for its LFs, and once line by line for its fields (http_head::fields::field_line). A name is
+// compared with three names, and of the three fields the values are judged at the end.
 #![tactic(auto)]
 
 pub mod lines; // where a line of the head ends

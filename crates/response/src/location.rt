@@ -14,7 +14,7 @@ use targets::target::target;
 fn is_visible(b: u8) -> bool
     ensures { result ≡ is_visible b }
 {
-    matches!(b, 33..=126)
+    b.is_ascii_graphic()
 }
 
 // Whether each byte is 33 to 126.

@@ -13,7 +13,8 @@ use octets::refusal::Refusal;
 // What is asked of the three fields, and the table.
 fn judge(s: &[u8], place: HeadPlace) -> Result<Answer, Refusal>
     requires { (place.end ≤ length s.now) × SeenIn s.now place.seen }
-    ensures { response_outcome result ≡ judged s.now place.end place.fields (value_at s.now place.seen.content) (value_at s.now place.seen.location) (value_at s.now place.seen.status) }
+    ensures { response_outcome result ≡ judged s.now place.end place.fields (value_at s.now place.seen.content)
+        (value_at s.now place.seen.location) (value_at s.now place.seen.status) }
 {
     let HeadPlace { end, fields, seen } = place;
     // A target that is refused with 14 is 25 here: "25 for Location".

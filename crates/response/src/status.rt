@@ -28,8 +28,8 @@ fn status_code(v: &[u8]) -> Option<u64>
     Some(n)
 }
 
-// The status that the output states, where Status is marked so. "Then, or 25: .. Status is three digits, alone or followed by a space and any
-// reason, 200 to 599".
+// The status that the output states, where Status is marked so. "Then, or 25: .. Status is three digits, alone or followed by a space
+// and any reason, 200 to 599".
 pub fn status(s: &[u8], m: Mark) -> Result<Option<u64>, Refusal>
     requires { MarkIn s.now m }
     ensures { stated_outcome result ≡ stated_in (value_at s.now m) }

@@ -17,7 +17,8 @@ pub enum Action {
     Document,
 }
 
-// An action, its status (0 for serving a target), and where the Location's value and the body stand: without a Location its place is 0, 0.
+// An action, its status, and where the Location's value and the body stand. For serving a target the status is 0, and without a Location
+// its place is 0, 0. None is an Option: the answer's numbers are those that the rules state.
 #[derive(Clone, Copy, Debug, PartialEq, Eq)]
 pub struct Answer {
     pub action: Action,
@@ -34,7 +35,7 @@ fn is_redirecting(code: u64) -> bool
     matches!(code, 301 | 302 | 303 | 307 | 308)
 }
 
-// No Location: whatever the number of fields.
+// No Location: whatever the number of fields. Here and below typed is whether there is a Content-Type, which is all that the table asks.
 fn document(typed: bool, code: Option<u64>, body: Span) -> Result<Answer, Refusal>
     ensures { (n : ℕ) → response_outcome result ≡ table_of (script nowhere 0 0 code typed n body.start body.len) }
 {
@@ -51,7 +52,8 @@ fn document(typed: bool, code: Option<u64>, body: Span) -> Result<Answer, Refusa
 
 // A local Location: whatever the status, and with Content-Type or without.
 fn serve(location: Span, fields: usize, body: Span) -> Result<Answer, Refusal>
-    ensures { (t : Option ℕ) (c : Bool) → response_outcome result ≡ table_of (script local location.start location.len t c fields body.start body.len) }
+    ensures { (t : Option ℕ) (c : Bool) → response_outcome result
+        ≡ table_of (script local location.start location.len t c fields body.start body.len) }
 {
     if fields != 1 || body.len != 0 {
         return Err(Refusal::Contradiction);
@@ -66,7 +68,8 @@ fn serve(location: Span, fields: usize, body: Span) -> Result<Answer, Refusal>
 
 // Another Location, with a document: whatever the number of fields.
 fn redirect_document(location: Span, code: Option<u64>, body: Span) -> Result<Answer, Refusal>
-    ensures { (n : ℕ) → response_outcome result ≡ table_of (script elsewhere location.start location.len code true n body.start body.len) }
+    ensures { (n : ℕ) → response_outcome result
+        ≡ table_of (script elsewhere location.start location.len code true n body.start body.len) }
 {
     let Some(status) = code else {
         return Err(Refusal::Contradiction);
@@ -84,7 +87,8 @@ fn redirect_document(location: Span, code: Option<u64>, body: Span) -> Result<An
 
 // Another Location: whatever the number of fields.
 fn redirect(location: Span, typed: bool, code: Option<u64>, body: Span) -> Result<Answer, Refusal>
-    ensures { (n : ℕ) → response_outcome result ≡ table_of (script elsewhere location.start location.len code typed n body.start body.len) }
+    ensures { (n : ℕ) → response_outcome result
+        ≡ table_of (script elsewhere location.start location.len code typed n body.start body.len) }
 {
     if typed {
         return redirect_document(location, code, body);
@@ -100,7 +104,8 @@ fn redirect(location: Span, typed: bool, code: Option<u64>, body: Span) -> Resul
     })
 }
 
-// The row of the table for an output whose Location is right, and whose body starts at a place.
+// The row of the table for an output whose Location is right, and whose body starts at a place. What a row is asked by is passed value by
+// value, as the definition of the table has it: a struct for one call would be longer.
 pub fn table_row(
     s: &[u8],
     location: Mark,

@@ -22,9 +22,6 @@ module _ (c : After-bare_end-l) where
   starts : start ≤ end
   starts = omega (arith, c.find-e.ensures)
 
-  line-starts : start ≤ c.bare_end-l.result
-  line-starts = omega (arith, c.bare_end-l.ensures)
-
   line-ends : c.bare_end-l.result ≤ end
   line-ends =
       omega (arith, c.bare_end-l.ensures, bare-le (take (end - start) (drop start t)), part_length t start end starts (omega (arith, c.if-t-e.false)))
