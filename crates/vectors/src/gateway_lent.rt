@@ -8,6 +8,7 @@ pub const SMALL: Lent<'static> = Lent {
     mounts: b"/jobs\0app\0",
 };
 
+// A request that the mount fits.
 pub const GET_JOBS: &[u8] = b"GET /jobs HTTP/1.0\r\n\r\n";
 
 // Unknown names are ignored, but no name may stand twice; AUTH_TYPE and REMOTE_USER are there both or not at all.
@@ -70,6 +71,7 @@ const MOST_MOUNTS: &[&[u8]] = &[
     b"/a0\0p\0/a1\0p\0/a2\0p\0/a3\0p\0/a4\0p\0/a5\0p\0/a6\0p\0/a7\0p\0/b0\0p\0/b1\0p\0/b2\0p\0/b3\0p\0/b4\0p\0/b5\0p\0/b6\0p\0/b7\0p\0/c0\0p\0/c1\0p\0/c2\0p\0/c3\0p\0/c4\0p\0/c5\0p\0/c6\0p\0/c7\0p\0/d0\0p\0/d1\0p\0/d2\0p\0/d3\0p\0/d4\0p\0/d5\0p\0/d6\0p\0/d7\0p\0/jobs\0app\0",
 ];
 
+// Connection facts, beside the small settings.
 pub fn show_facts(rt: &impl Print, cases: &[&[u8]]) {
     for &facts in cases {
         show(rt, Lent { facts, ..SMALL }, GET_JOBS);

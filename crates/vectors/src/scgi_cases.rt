@@ -59,6 +59,7 @@ const WRITES: &[(&[u8], &[u8])] = &[
     ),
 ];
 
+// The places of block and body, and the bytes used.
 fn request(s: &[u8]) -> Answer<Told<5>> {
     Answer(read(s).map(|r| Told(
         "request",
@@ -66,6 +67,7 @@ fn request(s: &[u8]) -> Answer<Told<5>> {
     )))
 }
 
+// What the reader gives.
 pub fn show_reads(rt: &impl Print, cases: &[&[u8]]) {
     for &s in cases {
         line(rt, request(s));
