@@ -15,7 +15,7 @@ fn all_mounts(block: &[u8]) -> bool
     ensures { result ≡ is_good (then (parsed block.now) (mounts_from 0)) }
 {
     let mut i: usize = 0;
-    // A while: headers have lengths of their own, so that the steps vary.
+    // A while: an iterator of headers would carry its own contract to each of four loops, each with another invariant: no plainer.
     while i < block.len() {
         // The block is well formed, so that the header is there.
         let h = header_at(block, i).unwrap();

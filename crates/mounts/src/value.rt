@@ -12,7 +12,8 @@ pub struct Value {
     pub limit: u64,
 }
 
-// The pool's length and the limit of a value, which is a pool, or a pool, `;` and a limit. None: an empty pool, a second `;` or a bad limit.
+// The pool's length and the limit of a value, which is a pool, or a pool, `;` and a limit. None: an empty pool, a second `;` or a bad
+// limit.
 pub fn read_value(v: &[u8]) -> Option<Value>
     ensures { value_outcome result ≡ value_of v.now }
 {

@@ -1,6 +1,5 @@
 -- Laws of the steps of a block's check, for the code that makes them.
 -- Assumes nothing.
-use Prim.{absurd}
 use Prim.Native.Nat.{ℕ, ◌+◌, ◌-◌, ◌≤◌, ◌<◌}
 use mathlib.Core.Path.{◌≡◌, refl, sym, ap, ◌∙◌}
 use mathlib.Core.Bool.{Bool, true, false, cond, ◌&&◌, ◌||◌}
@@ -10,7 +9,7 @@ use Rattle.std.specs.Option.{ok_or}
 use Rattle.std.specs.Result.{IsOk}
 use native.Mathlib.Nat.{sub-zero}
 use native.Mathlib.Omega.{arith}
-use lib.Dec.{leb}
+use Rattle.std.proofs.lemmas.List.{nil_from_length}
 use lib.ListN.{length, take, drop}
 use borrow.Author.Tests.{le-leb, lt-leb}
 use Rattle.octets.specs.Text.{bytes}
@@ -48,15 +47,11 @@ given-or (Some n) e = refl
 headed : (b : List ℕ) → well_formed b ≡ true → Headed b
 headed b = (well-formed-headed b).0
 
-no-headers : (hs : List Header) → length hs ≡ 0 → hs ≡ []
-no-headers [] e = refl
-no-headers (h ∷ hs) e = absurd (omega arith)
-
 module _ (b : List ℕ) (w : well_formed b ≡ true) where
   pub states-none : length b ≡ 0 → stated_in b ≡ refused 8
   states-none z =
       let p = headed b w in
-      let e : p.hs ≡ [] = no-headers p.hs (omega (arith, headers-few b p.hs p.is)) in
+      let e : p.hs ≡ [] = nil_from_length p.hs (omega (arith, headers-few b p.hs p.is)) in
       ap (λ (o : Outcome (List Header)). then o stated_by) (p.is ∙ ap gives e)
 
   pub states-first : (n v : ℕ) → HeaderFound b 0 (gives (record { name_end = n; value_end = v })) → stated_in b ≡ first_states b n v
@@ -114,11 +109,6 @@ differ b e =
     record { hs = g.it; is = g.first; names_differ = test-different (names g.it) (cc) }
 
 module _ (b : List ℕ) (d : then (parsed b) (λ hs. gives (different (names hs))) ≡ gives true) where
-  pub differ-well : well_formed b ≡ true
-  differ-well =
-      let p = differ b d in
-      (well-formed-headed b).1 (record { hs = p.hs; is = p.is })
-
   -- what the place of SCGI's value says
   pub scgi-at : (o : Option Span) → lookup_of b (bytes "SCGI") ≡ gives o → has_scgi b ≡ gives (is_value (part_option b o) (bytes "1"))
   scgi-at o e =
@@ -171,40 +161,3 @@ module _ (b : List ℕ) (n : ℕ) (c : count_of b ≡ gives n) where
 
     pub other-names : then (parsed b) (λ hs. gives (different (names hs))) ≡ gives true → check_block b ≡ rest_of b
     other-names = by_names true
-
--- What is asked after the names.
-
-module _ (b : List ℕ) (d : then (parsed b) (λ hs. gives (different (names hs))) ≡ gives true) where
-  abbrev hs : List Header
-  hs = (differ b d).hs
-
-  p : parsed b ≡ gives hs
-  p = (differ b d).is
-
-  left : rest_of b ≡ then (stated_by hs) (λ n. need (leb n 1048576) 9 (need (has scgi1 hs) 10 (gives n)))
-  left = rw p
-
-  pub unstated : (k : ℕ) → stated_in b ≡ refused k → rest_of b ≡ refused k
-  unstated k e =
-      let q : stated_by hs ≡ refused k = rw p at e in
-      left ∙ rw q
-
-  module _ (len : ℕ) (e : stated_in b ≡ gives len) where
-    stated : stated_by hs ≡ gives len
-    stated = rw p at e
-
-    pub too_long : 1048576 < len → rest_of b ≡ refused 9
-    too_long h = left ∙ rw (stated, lt-leb len 1048576 h)
-
-    module _ (small : len ≤ 1048576) where
-      pub no-scgi : has_scgi b ≡ gives false → rest_of b ≡ refused 10
-      no-scgi h =
-          let q : gives (has scgi1 hs) ≡ gives false = rw p at h in
-          let z : has scgi1 hs ≡ false = cc in
-          left ∙ rw (stated, le-leb len 1048576 small, z)
-
-      pub passes : has_scgi b ≡ gives true → rest_of b ≡ gives len
-      passes h =
-          let q : gives (has scgi1 hs) ≡ gives true = rw p at h in
-          let z : has scgi1 hs ≡ true = cc in
-          left ∙ rw (stated, le-leb len 1048576 small, z)

@@ -14,16 +14,12 @@ use Rattle.octets.specs.Outcome.{refused, gives}
 use Rattle.octets.specs.Copy.{over}
 use Rattle.octets.proofs.Copies.{over-nil, store-last}
 use Rattle.framing.specs.Spool.{Spool, cut, refused_by, ended, before, behind, total}
-use Rattle.framing.specs.Claims.{Frames}
 use Rattle.framing.proofs.SpoolSteps.{at_end, at_cut, at-refused, at-full, onward}
 use Rattle.scgi.specs.Read.{used_of}
 use Rattle.scgi.specs.Spool.{ending_of, requests_of, SpoolDone}
 use Rattle.scgi.specs.declared.spool.Ending.{Ending}
 use Rattle.scgi.specs.declared.spool.Ending.TheVariants.{Whole, Full}
 use Rattle.scgi.proofs.Reader.{spools-hold}
-
-frames : Frames used_of
-frames = spools-hold.frames
 
 total-append : (a b : List ℕ) → total (a ++ b) ≡ total a + total b
 unfolding total
@@ -56,7 +52,7 @@ module _ {s d : List ℕ} {i n : ℕ} {out : List ℕ} (r : Standing s d i n out
       }
 
   pub none_left : length s ≤ i → SpoolDone s d out (record { count = n; next = i; ending = Whole })
-  none_left h = ends Whole (rw (drop_of_length-le s h) (at_end used_of frames (length d - n)))
+  none_left h = ends Whole (rw (drop_of_length-le s h) (at_end used_of spools-hold.frames (length d - n)))
 
   module _ (more : i < length s) where
     some : 0 < length (drop i s)
@@ -70,27 +66,27 @@ module _ {s d : List ℕ} {i n : ℕ} {out : List ℕ} (r : Standing s d i n out
         by : (t : Bool) → eqb k 1 ≡ t → requests_of (drop i s) (length d - n) ≡ ended (cond (eqb k 1) cut (refused_by k))
         by true t =
             let z : k ≡ 1 = eqb-true k 1 t in
-            rw t (at_cut used_of frames (drop i s) some (length d - n) (u ∙ ap refused z))
-        by false t = rw t (at-refused used_of frames (drop i s) some (length d - n) k u (eqb-false k 1 t))
+            rw t (at_cut used_of spools-hold.frames (drop i s) some (length d - n) (u ∙ ap refused z))
+        by false t = rw t (at-refused used_of spools-hold.frames (drop i s) some (length d - n) k u (eqb-false k 1 t))
 
     module _ (u : ℕ) (reads : used_of (drop i s) ≡ gives u) where
       pub within : i + u ≤ length s
-      within = omega (arith, (frames.within (drop i s) u reads).1, length-drop i s)
+      within = omega (arith, (spools-hold.frames.within (drop i s) u reads).1, length-drop i s)
 
       pub used-some : 0 < u
-      used-some = (frames.within (drop i s) u reads).0
+      used-some = (spools-hold.frames.within (drop i s) u reads).0
 
       pub no_room : length d ≤ n → SpoolDone s d out (record { count = n; next = i; ending = Full })
       no_room h =
           let z : length d - n ≡ 0 = omega arith in
-          ends Full (rw z (at-full used_of frames (drop i s) some u reads))
+          ends Full (rw z (at-full used_of spools-hold.frames (drop i s) some u reads))
 
       pub stored_one : n < length d → Standing s d (i + u) (n + 1) (set out n u)
       unfolding total
       stored_one h =
           let z : length d - n ≡ suc (length d - (n + 1)) = omega arith in
           let m : requests_of (drop i s) (length d - n) ≡ before u (requests_of (drop (i + u) s) (length d - (n + 1))) =
-          rw (z, ← drop-drop u i s) (onward used_of frames (drop i s) some (length d - (n + 1)) u reads) in
+          rw (z, ← drop-drop u i s) (onward used_of spools-hold.frames (drop i s) some (length d - (n + 1)) u reads) in
           record {
             done = r.done ++ (u ∷ []);
             count = simp length-append (omega (arith, r.count));

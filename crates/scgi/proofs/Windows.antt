@@ -12,7 +12,6 @@ use lib.ListN.{length, drop, length-append, length-drop}
 use borrow.Author.Tests.{eqb-true, eqb-false}
 use Rattle.octets.specs.Outcome.{Outcome, refused, gives, then}
 use Rattle.framing.specs.Spool.{Spool, Ending, whole, cut, refused_by, full, ended, before, behind, joined, total}
-use Rattle.framing.specs.Claims.{Frames}
 use Rattle.framing.proofs.SpoolSteps.{at_end, at_cut, at-refused, at-full, onward, bounded}
 use Rattle.scgi.specs.Read.{Places, read_of, used_of}
 use Rattle.scgi.specs.Spool.{requests_of}
@@ -20,14 +19,11 @@ use Rattle.scgi.specs.Window.{next_of, read_more, after_turn, turns_in}
 use Rattle.scgi.specs.Claims.{WindowReadsAll}
 use Rattle.scgi.proofs.Reader.{more-bytes-keep-answer, spools-hold}
 
-frames : Frames used_of
-frames = spools-hold.frames
-
 -- Room for all requests is as good as any more.
 
 same-room : (k : ℕ) (s : List ℕ) (m n : ℕ) → length s < k → length s ≤ m → length s ≤ n → requests_of s m ≡ requests_of s n
 same-room zero s m n h a b = absurd (omega arith)
-same-room (suc k) [] m n h a b = at_end used_of frames m ∙ sym (at_end used_of frames n)
+same-room (suc k) [] m n h a b = at_end used_of spools-hold.frames m ∙ sym (at_end used_of spools-hold.frames n)
 same-room (suc k) (x ∷ s) zero n h a b = absurd (omega arith)
 same-room (suc k) (x ∷ s) (suc m) zero h a b = absurd (omega arith)
 same-room (suc k) (x ∷ s) (suc m) (suc n) h a b = by (used_of (x ∷ s)) refl (same-room k)
@@ -44,15 +40,15 @@ same-room (suc k) (x ∷ s) (suc m) (suc n) h a b = by (used_of (x ∷ s)) refl 
         by_number : (t : Bool) → eqb i 1 ≡ t → requests_of (x ∷ s) (suc m) ≡ requests_of (x ∷ s) (suc n)
         by_number true t =
             let z : used_of (x ∷ s) ≡ refused 1 = e ∙ ap refused (eqb-true i 1 t) in
-            at_cut used_of frames (x ∷ s) some (suc m) z ∙ sym (at_cut used_of frames (x ∷ s) some (suc n) z)
+            at_cut used_of spools-hold.frames (x ∷ s) some (suc m) z ∙ sym (at_cut used_of spools-hold.frames (x ∷ s) some (suc n) z)
         by_number false t =
-            at-refused used_of frames (x ∷ s) some (suc m) i e (eqb-false i 1 t) ∙ sym (at-refused used_of frames (x ∷ s) some (suc n) i e (eqb-false i 1 t))
+            at-refused used_of spools-hold.frames (x ∷ s) some (suc m) i e (eqb-false i 1 t) ∙ sym (at-refused used_of spools-hold.frames (x ∷ s) some (suc n) i e (eqb-false i 1 t))
     by (gives u) e ih =
-        let w = frames.within (x ∷ s) u e in
+        let w = spools-hold.frames.within (x ∷ s) u e in
         let l : length (drop u (x ∷ s)) ≡ suc (length s) - u = length-drop u (x ∷ s) in
-        onward used_of frames (x ∷ s) some m u e
+        onward used_of spools-hold.frames (x ∷ s) some m u e
         ∙ ap (before u) (ih (drop u (x ∷ s)) m n (omega (arith, w.0)) (omega (arith, w.0)) (omega (arith, w.0)))
-        ∙ sym (onward used_of frames (x ∷ s) some n u e)
+        ∙ sym (onward used_of spools-hold.frames (x ∷ s) some n u e)
 
 none_more : (x y : List ℕ) → x ≡ x ++ y → y ≡ []
 none_more x [] e = refl
@@ -74,10 +70,10 @@ left held room = drop (total (found held room)) held
 
 module _ (held : List ℕ) (room : ℕ) where
   few : length (found held room) ≤ room
-  few = (bounded used_of frames held room).few
+  few = (bounded used_of spools-hold.frames held room).few
 
   left-length : length (left held room) + total (found held room) ≡ length held
-  left-length = omega (arith, length-drop (total (found held room)) held, (bounded used_of frames held room).inside)
+  left-length = omega (arith, length-drop (total (found held room)) held, (bounded used_of spools-hold.frames held room).inside)
 
   -- the answer over more bytes is what was found, before the answer over the bytes left and those
   found_first :
@@ -109,7 +105,7 @@ data Ends (s : List ℕ) (room : ℕ) : Ending → Type 0 where
 
 ends : (s : List ℕ) (room : ℕ) (e : Ending) → requests_of s room ≡ ended e → Ends s room e
 ends [] room e h =
-    let z : e ≡ whole = ap (λ (p : Spool). p.ending) (sym h ∙ at_end used_of frames room) in
+    let z : e ≡ whole = ap (λ (p : Spool). p.ending) (sym h ∙ at_end used_of spools-hold.frames room) in
     rw z (at_last refl)
 ends (b ∷ s) room e h = by (used_of (b ∷ s)) refl room h
   where
@@ -122,23 +118,23 @@ ends (b ∷ s) room e h = by (used_of (b ∷ s)) refl room h
         by_number : (t : Bool) → eqb n 1 ≡ t → Ends (b ∷ s) room e
         by_number true t =
             let w : used_of (b ∷ s) ≡ refused 1 = u ∙ ap refused (eqb-true n 1 t) in
-            let z : e ≡ cut = ap (λ (p : Spool). p.ending) (sym h ∙ at_cut used_of frames (b ∷ s) some room w) in
+            let z : e ≡ cut = ap (λ (p : Spool). p.ending) (sym h ∙ at_cut used_of spools-hold.frames (b ∷ s) some room w) in
             rw z (cut_short some w)
         by_number false t =
-            let z : e ≡ refused_by n = ap (λ (p : Spool). p.ending) (sym h ∙ at-refused used_of frames (b ∷ s) some room n u (eqb-false n 1 t)) in
+            let z : e ≡ refused_by n = ap (λ (p : Spool). p.ending) (sym h ∙ at-refused used_of spools-hold.frames (b ∷ s) some room n u (eqb-false n 1 t)) in
             rw z (faulty some u (eqb-false n 1 t))
     by (gives u) w zero h =
-        let z : e ≡ full = ap (λ (p : Spool). p.ending) (sym h ∙ at-full used_of frames (b ∷ s) some u w) in
+        let z : e ≡ full = ap (λ (p : Spool). p.ending) (sym h ∙ at-full used_of spools-hold.frames (b ∷ s) some u w) in
         rw z (no_room refl)
     by (gives u) w (suc room) h =
-        let l : 0 ≡ suc (length (requests_of (drop u (b ∷ s)) room).lengths) = ap (λ (p : Spool). length p.lengths) (sym h ∙ onward used_of frames (b ∷ s) some room u w) in
+        let l : 0 ≡ suc (length (requests_of (drop u (b ∷ s)) room).lengths) = ap (λ (p : Spool). length p.lengths) (sym h ∙ onward used_of spools-hold.frames (b ∷ s) some room u w) in
         absurd (omega arith)
 
 -- where a turn found a request, it took a byte
 took : (s : List ℕ) (room : ℕ) → 0 < length (found s room) → 0 < total (found s room)
 unfolding total
 took [] room h =
-    let l : length (found [] room) ≡ 0 = ap (λ (p : Spool). length p.lengths) (at_end used_of frames room) in
+    let l : length (found [] room) ≡ 0 = ap (λ (p : Spool). length p.lengths) (at_end used_of spools-hold.frames room) in
     absurd (omega arith)
 took (b ∷ s) room h = by (used_of (b ∷ s)) refl room h
   where
@@ -150,17 +146,17 @@ took (b ∷ s) room h = by (used_of (b ∷ s)) refl room h
       where
         by_number : (t : Bool) → eqb n 1 ≡ t → 0 < total (found (b ∷ s) room)
         by_number true t =
-            let l : length (found (b ∷ s) room) ≡ 0 = ap (λ (p : Spool). length p.lengths) (at_cut used_of frames (b ∷ s) some room (u ∙ ap refused (eqb-true n 1 t))) in
+            let l : length (found (b ∷ s) room) ≡ 0 = ap (λ (p : Spool). length p.lengths) (at_cut used_of spools-hold.frames (b ∷ s) some room (u ∙ ap refused (eqb-true n 1 t))) in
             absurd (omega arith)
         by_number false t =
-            let l : length (found (b ∷ s) room) ≡ 0 = ap (λ (p : Spool). length p.lengths) (at-refused used_of frames (b ∷ s) some room n u (eqb-false n 1 t)) in
+            let l : length (found (b ∷ s) room) ≡ 0 = ap (λ (p : Spool). length p.lengths) (at-refused used_of spools-hold.frames (b ∷ s) some room n u (eqb-false n 1 t)) in
             absurd (omega arith)
     by (gives u) w zero h =
-        let l : length (found (b ∷ s) zero) ≡ 0 = ap (λ (p : Spool). length p.lengths) (at-full used_of frames (b ∷ s) some u w) in
+        let l : length (found (b ∷ s) zero) ≡ 0 = ap (λ (p : Spool). length p.lengths) (at-full used_of spools-hold.frames (b ∷ s) some u w) in
         absurd (omega arith)
     by (gives u) w (suc room) h =
-        let l : total (found (b ∷ s) (suc room)) ≡ u + total (found (drop u (b ∷ s)) room) = ap (λ (p : Spool). total p.lengths) (onward used_of frames (b ∷ s) some room u w) in
-        omega (arith, (frames.within (b ∷ s) u w).0)
+        let l : total (found (b ∷ s) (suc room)) ≡ u + total (found (drop u (b ∷ s)) room) = ap (λ (p : Spool). total p.lengths) (onward used_of spools-hold.frames (b ∷ s) some room u w) in
+        omega (arith, (spools-hold.frames.within (b ∷ s) u w).0)
 
 -- a refusal but 1 stays
 still-faulty : (s t : List ℕ) (n : ℕ) → used_of s ≡ refused n → (n ≡ 1 → ⊥) → used_of (s ++ t) ≡ refused n
@@ -202,12 +198,12 @@ module _ (room : ℕ) (room-some : 0 < room) where
           (is_end : Bool) (e : Ending) → Ends s m e → (is_end ≡ true → reads ≡ []) → enough is_end held reads < suc k → length (s ++ joined reads) ≤ n
           → after_turn (turns_in k room) is_end s reads (next_of is_end e) ≡ requests_of (s ++ joined reads) n
       unfolding joined
-      goes_on true whole (at_last z) none en b = rw (none refl, z) (sym (at_end used_of frames n))
+      goes_on true whole (at_last z) none en b = rw (none refl, z) (sym (at_end used_of spools-hold.frames n))
       goes_on false whole (at_last z) none en b = reads_more s reads n l en b
-      goes_on true cut (cut_short h u) none en b = rw (none refl, append-nil s) (sym (at_cut used_of frames s h n u))
+      goes_on true cut (cut_short h u) none en b = rw (none refl, append-nil s) (sym (at_cut used_of spools-hold.frames s h n u))
       goes_on false cut (cut_short h u) none en b = reads_more s reads n l en b
       goes_on is_end (refused_by i) (faulty h u q) none en b =
-          sym (at-refused used_of frames (s ++ joined reads) (simp length-append (omega arith)) n i (still-faulty s (joined reads) i u q) q)
+          sym (at-refused used_of spools-hold.frames (s ++ joined reads) (simp length-append (omega arith)) n i (still-faulty s (joined reads) i u q) q)
       goes_on true full (no_room z) none en b = ih true s reads n none (omega (arith, shorter z)) b
       goes_on false full (no_room z) none en b = ih false s reads n none (omega (arith, shorter z)) b
 

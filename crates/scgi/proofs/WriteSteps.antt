@@ -10,7 +10,6 @@ use borrow.Author.Tests.{eq-eqb, ne_eqb, le-leb, lt-leb}
 use Rattle.octets.specs.Outcome.{refused, gives}
 use Rattle.octets.specs.Refusal.{number_of}
 use Rattle.octets.specs.declared.refusal.Refusal.{Refusal}
-use Rattle.octets.specs.declared.refusal.Refusal.TheVariants.{NoRoom}
 use Rattle.std.proofs.Common.{Ok, Err}
 use Rattle.octets.specs.Decimal.{decimal}
 use Rattle.octets.specs.Copy.{over, Wrote}
@@ -35,11 +34,6 @@ four-writes d b d₁ d₂ d₃ d₄ r₁ r₂ r₃ r₄ room w₁ w₂ w₃ w₄
 -- What is to be written goes out, or there is no room for it.
 
 module _ (w d : List ℕ) where
-  pub no_room : length d < length w → WrittenOut (in_room w (length d)) d d (Err NoRoom)
-  no_room h =
-      let e = lt-leb (length w) (length d) h in
-      record { answer = rw e; output = rw e }
-
   pub has_room : (after : List ℕ) (n : ℕ) → length w ≤ length d → Wrote d 0 w after n → WrittenOut (in_room w (length d)) d after (Ok n)
   unfolding over
   has_room after n h x =

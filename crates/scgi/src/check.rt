@@ -59,8 +59,9 @@ fn check_rest(stored: Names<'_>) -> Result<usize, Refusal>
     Ok(len as usize)
 }
 
-// Whether a block of n headers, of any number, is that of a request. It is walked again for its names, with room for as many as a request may
-// have. A const parameter for the room would leave tests of it: more names than fit mean another thing here, and are compared in another way.
+// Whether a block of n headers, of any number, is that of a request. It is walked again for its names, with room for as many as a
+// request may have. A const parameter for the room would leave tests of it: more names than fit mean another thing here, and are
+// compared in another way.
 fn check_large(block: &[u8], n: usize) -> Result<usize, Refusal>
     requires { count_of block.now ≡ gives n }
     ensures { checked_outcome result ≡ check_block block.now }

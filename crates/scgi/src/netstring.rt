@@ -11,11 +11,13 @@ pub struct Digits {
     pub count: usize,
     // The number that they say.
     pub value: usize,
-    // Whether the colon came behind them.
+    // Whether the colon came behind them. A flag, for the count and the value are there either way.
     pub colon: bool,
 }
 
 // What the bytes say after so many digits, which say the value. The first fault from the left decides.
+// Not by decimal::read of octets, which has other rules: there all bytes are digits and zeros may lead; here a colon ends them, no zero
+// leads, and the next run may go on with them.
 pub fn read_digits(s: &[u8], count: usize, value: usize) -> Result<Digits, Refusal>
     requires { (count ≤ value + 1) × (value ≤ 16384) }
     ensures { digits_outcome result ≡ digits_from count value s.now }

@@ -14,7 +14,7 @@ pub enum Ending {
     Refused(Refusal),
 }
 
-// How a spool ends where the reader refuses: "cut where the reader gives 1, refused N".
+// How a spool ends where the reader refuses.
 impl From<Refusal> for Ending {
     ghost from_gives = { EndingBy };
 
@@ -28,7 +28,7 @@ impl From<Refusal> for Ending {
 
 #[derive(Clone, Copy, Debug, PartialEq, Eq)]
 pub struct Spooled {
-    // How many lengths are stored.
+    // How many lengths are stored. A count and no list of them: there is no heap, and the list is lent.
     pub count: usize,
     // The place after the requests whose lengths are stored.
     pub next: usize,

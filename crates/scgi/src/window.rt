@@ -6,7 +6,7 @@ ghost use Rattle.scgi.specs.Window.{next_as, next_of, TurnDone};
 use crate::spool::{Ending, spool};
 use octets::refusal::Refusal;
 
-// What comes after a turn.
+// What comes after a turn. Not the spool's ending: a full list never ends a turn, and bytes that may go on have no ending yet.
 #[derive(Clone, Copy, Debug, PartialEq, Eq)]
 pub enum Next {
     // The bytes behind the taken ones, and more input behind them.
@@ -20,14 +20,14 @@ pub enum Next {
 
 #[derive(Clone, Copy, Debug, PartialEq, Eq)]
 pub struct Turn {
-    // How many lengths are stored.
+    // How many lengths are stored. A count and no list of them: there is no heap, and the list is lent.
     pub count: usize,
     // How many bytes at the front of the window are done with.
     pub taken: usize,
     pub next: Next,
 }
 
-// What the held bytes give, where ended says that the input has no more.
+// What the held bytes give, where ended says that the input has no more. A flag, for there is no value beside it.
 pub fn advance(held: &[u8], ended: bool, lengths: &mut [u64]) -> Turn
     ensures { TurnDone held.now ended lengths.old lengths.new result }
 {

@@ -1,6 +1,5 @@
 use native.Mathlib.Omega.{arith}
 use mathlib.Core.List.{◌++◌}
-use mathlib.Core.Path.{◌≡◌}
 use Prim.Native.Nat.{◌+◌, ◌≤◌}
 use lib.ListN.{length, length-append}
 use Rattle.octets.proofs.Copies.{and_then}
@@ -10,12 +9,9 @@ use Rattle.scgi.specs.Grammar.{netstring}
 use Rattle.scgi.proofs.write.write_parts.Goals as goal
 use Rattle.scgi.proofs.write.write_parts.Goals.{After-digits, Else-out-size}
 
--- the size that is computed is small, and right
+-- the size that is computed is small
 small : (c : After-digits) → c.digits.result + 2 + length c.args.block.now + length c.args.body.now ≤ 1114112
 small c = omega (arith, decimal-short (length c.args.block.now), c.digits.ensures, c.requires.0, c.requires.1)
-
-size : (c : After-digits) → length (netstring c.args.block.now ++ c.args.body.now) ≡ c.digits.result + 2 + length c.args.block.now + length c.args.body.now
-size c = omega (arith, size_is c.args.block.now c.args.body.now, c.digits.ensures)
 
 -- the output has room for it
 room : (c : Else-out-size) → length (netstring c.args.block.now ++ c.args.body.now) ≤ length c.args.out.now
