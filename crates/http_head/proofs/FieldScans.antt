@@ -1,4 +1,5 @@
--- Laws of a field line that is read in place: the run of its name's bytes ends at the colon, the run of its value's bytes where the line does.
+-- Laws of a field line that is read in place: the run of its name's bytes ends at the colon, the run of its value's bytes where
+-- the line does.
 -- Assumes nothing.
 use mathlib.Core.Path.{◌≡◌, refl, sym, ap, ◌∙◌}
 use mathlib.Core.Bool.{Bool, true, false, cond, not, ◌&&◌, ◌||◌, and-false}

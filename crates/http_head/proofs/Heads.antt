@@ -15,18 +15,19 @@ use Rattle.octets.specs.Outcome.{Outcome, refused, gives, given}
 use Rattle.octets.proofs.Bools.{and_left, and_right}
 use Rattle.octets.proofs.Outcomes.{given-gives}
 use Rattle.octets.proofs.Lists.{next, there, part-more}
+use Rattle.std.proofs.lemmas.Bool.{or_parts}
 use Rattle.std.specs.Option.{ok_or}
 use Rattle.octets.specs.Refusal.{number_of}
 use Rattle.octets.specs.declared.refusal.Refusal.{Refusal}
 use Rattle.http_head.specs.Head.{head_outcome, ends_head, end_from, Passed, head_of}
 use Rattle.http_head.specs.Claims.{HeadWithin}
 
--- a head within the limit, and one that may reach past it
 -- an answer that may be missing, or the refusal
 pub or_refused : (o : Option ℕ) (e : Refusal) → head_outcome (ok_or o e) ≡ given o (number_of e)
 or_refused None e = refl
 or_refused (Some n) e = refl
 
+-- a head within the limit, and one that may reach past it
 pub under-limit : (s : List ℕ) → length s < 8192 → head_of s ≡ given (end_from 0 s) 1
 unfolding head_of
 under-limit s h =
@@ -112,14 +113,6 @@ module _ (s : List ℕ) where
 
 -- Places passed by the pairs of bytes behind them.
 
-or_left : (a b : Bool) → a || b ≡ false → a ≡ false
-or_left true b e = e
-or_left false b e = refl
-
-or_right : (a b : Bool) → a || b ≡ false → b ≡ false
-or_right true b e = cc
-or_right false b e = e
-
 middle : (a b c d : Bool) → b && c ≡ false → ((a && b) && c) && d ≡ false
 middle true true true d e = cc
 middle true true false d e = refl
@@ -130,9 +123,6 @@ module _ (s : List ℕ) where
   pub pass-none : (i : ℕ) → i ≤ length s → Passed s i i
   pass-none i h = record { onward = omega arith; inside = h; same = refl }
 
-  pub pass-then : (i j k : ℕ) → Passed s i j → Passed s j k → Passed s i k
-  pass-then i j k p q = record { onward = omega (arith, p.onward, q.onward); inside = q.inside; same = p.same ∙ q.same }
-
   -- a place behind which LF and CR do not stand next to each other
   pub turn_on :
       (i k : ℕ) (hit : Bool) → i + k < length s → (hit ≡ false → Passed s i (i + k))
@@ -140,16 +130,12 @@ module _ (s : List ℕ) where
   turn_on i k hit h p e =
       let q : i + k + 1 ≡ i + (k + 1) = omega arith in
       let t = eqb (get_or s (i + k + 1) 0) 10 && eqb (get_or s (i + k + 2) 0) 13 in
+      let o = or_parts hit t e in
       let n : ends_head (drop (i + k) s) ≡ false =
-      ends_at s (i + k) ∙ middle (eqb (get_or s (i + k) 0) 13) (eqb (get_or s (i + k + 1) 0) 10) (eqb (get_or s (i + k + 2) 0) 13) (eqb (get_or s (i + k + 3) 0) 10) (or_right hit t e) in
-      rw q at (one_on s i (i + k) (i + k + 1) (p (or_left hit t e)) h n (pass-none (i + k + 1) (omega arith)))
-
-  -- two chunks of sixteen
-  pub pass-chunks :
-      (i : ℕ) (a b : Bool) → (a ≡ false → Passed s i (i + 16)) → (b ≡ false → Passed s (i + 16) (i + 16 + 16)) → a || b ≡ false → Passed s i (i + 32)
-  pass-chunks i a b p q e =
-      let l : i + 16 + 16 ≡ i + 32 = omega arith in
-      rw l at (pass-then i (i + 16) (i + 16 + 16) (p (or_left a b e)) (q (or_right a b e)))
+      ends_at s (i + k)
+      ∙ middle (eqb (get_or s (i + k) 0) 13) (eqb (get_or s (i + k + 1) 0) 10) (eqb (get_or s (i + k + 2) 0) 13)
+      (eqb (get_or s (i + k + 3) 0) 10) o.1 in
+      rw q at (one_on s i (i + k) (i + k + 1) (p o.0) h n (pass-none (i + k + 1) (omega arith)))
 
 -- a head lies in s and in the limit, and has its last four bytes
 some_end : (i : ℕ) (s : List ℕ) (n : ℕ) → end_from i s ≡ Some n → (i + 4 ≤ n) × (n ≤ i + length s)

@@ -7,8 +7,10 @@ use Rattle.octets.specs.Scan.{all_of}
 use Rattle.octets.specs.Lists.{All, Without, NoNul}
 use Rattle.http_head.specs.Head.{head_of}
 use Rattle.http_head.specs.Lines.{lines_of, line_run}
-use Rattle.http_head.specs.RequestLine.{FirstLine, is_method, is_version, is_served, version_text, request_line_of, line_places_of, line_outcome}
-use Rattle.http_head.specs.Fields.{Field, is_field_name, field_of, fields_of, name_length, value_start, value_length, Stored, field_at, fields_at, AllInside, part_at}
+use Rattle.http_head.specs.RequestLine.{FirstLine, is_method, is_version, is_served, version_text}
+use Rattle.http_head.specs.RequestLine.{request_line_of, line_places_of, line_outcome}
+use Rattle.http_head.specs.Fields.{Field, is_field_name, field_of, fields_of, name_length, value_start, value_length}
+use Rattle.http_head.specs.Fields.{Stored, field_at, fields_at, AllInside, part_at}
 use Rattle.octets.specs.Refusal.{number_of}
 use Rattle.octets.specs.declared.refusal.Refusal.{Refusal}
 use Rattle.http_head.specs.declared.request_line.RequestLine.{RequestLine}
@@ -38,7 +40,8 @@ pub record FirstLineStands : Type 0 where
 
 -- THE REQUEST LINE
 
--- "method, space, target, space, version, with exactly two spaces in it"; method and version have no NUL, which would end a variable's value
+-- "method, space, target, space, version, with exactly two spaces in it"; method and version have no NUL,
+-- which would end a variable's value
 pub record Reads (line : List ℕ) (f : FirstLine) : Type 0 where
   pub parts : line ≡ f.method ++ (32 ∷ (f.target ++ (32 ∷ f.version)))
   pub method : is_method f.method ≡ true
@@ -55,7 +58,8 @@ LineIsMade = (line : List ℕ) (f : FirstLine) → (request_line_of line ≡ giv
 -- the parts of a request line stand at the places that the answer tells
 pub record LineStands (line : List ℕ) (l : RequestLine) : Type 0 where
   pub answer :
-      gives (record { method = take l.method_len line; target = part_at line l.target; version = version_text l.minor }) ≡ request_line_of line
+      gives (record { method = take l.method_len line; target = part_at line l.target; version = version_text l.minor })
+      ≡ request_line_of line
   pub method_inside : l.method_len ≤ length line
   pub target_inside : l.target.start + l.target.len ≤ length line
   pub minor_is : l.minor ≤ 1

@@ -1,6 +1,7 @@
 -- Field lines, and the places of fields in a lent list.
 -- Assumes nothing.
-use Rattle.std.specs.Prelude.{ℕ, ◌+◌, ◌≤◌, ◌<◌, ◌≡◌, Bool, cond, ◌&&◌, List, [], ◌∷◌, ◌++◌, leb, ltb, length, map, take, drop, get_or, Option, None, Some, Result, Ok, Err}
+use Rattle.std.specs.Prelude.{ℕ, ◌+◌, ◌≤◌, ◌<◌, ◌≡◌, Bool, cond, ◌&&◌, leb, ltb, Option, None, Some, Result, Ok, Err}
+use Rattle.std.specs.Prelude.{List, [], ◌∷◌, ◌++◌, length, map, take, drop, get_or}
 use Rattle.octets.specs.Outcome.{Outcome, gives, then, given}
 use Rattle.octets.specs.Kinds.{is_blank, is_value}
 use Rattle.octets.specs.Scan.{run, all_of, other}

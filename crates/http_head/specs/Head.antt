@@ -1,6 +1,7 @@
 -- Where the head of a request ends.
 -- Assumes nothing.
-use Rattle.std.specs.Prelude.{◌≡◌, ℕ, ◌+◌, ◌≤◌, Bool, cond, ◌&&◌, List, [], ◌∷◌, eqb, leb, length, take, drop, get_or, Option, None, Some, Result}
+use Rattle.std.specs.Prelude.{◌≡◌, ℕ, ◌+◌, ◌≤◌, Bool, cond, ◌&&◌, eqb, leb, Option, None, Some, Result}
+use Rattle.std.specs.Prelude.{List, [], ◌∷◌, length, take, drop, get_or}
 use Rattle.octets.specs.Outcome.{Outcome, given}
 use Rattle.octets.specs.Refusal.{outcome}
 use Rattle.octets.specs.declared.refusal.Refusal.{Refusal}

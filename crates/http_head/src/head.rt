@@ -9,7 +9,7 @@ fn ends_head(s: &[u8], i: usize) -> bool
     requires { i + 3 < length s.now }
     ensures { result ≡ ends_head (drop i s.now) }
 {
-    s[i] == b'\r' && s[i + 1] == b'\n' && s[i + 2] == b'\r' && s[i + 3] == b'\n'
+    s[i..].starts_with(b"\r\n\r\n")
 }
 
 // Goes on from a place by four bytes as long as the fourth of them is above CR, and so neither CR nor LF: no CR LF CR LF begins among the
@@ -19,7 +19,8 @@ fn skip(s: &[u8], from: usize) -> usize
     ensures { Passed s.now from result }
 {
     let mut i = from;
-    // A turn is sixteen bytes, or the last one: no `for`.
+    // A turn is sixteen bytes, or the last one: no `for`. An iterator over chunks is no plainer here: the place that comes back is a
+    // number of bytes.
     while 15 < s.len() - i {
         if s[i + 3] <= b'\r' {
             return i;

@@ -9,7 +9,7 @@ fn ends_line(s: &[u8], i: usize) -> bool
     requires { i < length s.now }
     ensures { result ≡ ends_line (drop i s.now) }
 {
-    s[i] == b'\r' && 2 <= s.len() - i && s[i + 1] == b'\n'
+    s[i..].starts_with(b"\r\n")
 }
 
 // Whether a line ends at i, by CR LF or with s.
