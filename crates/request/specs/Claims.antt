@@ -19,8 +19,8 @@ use Rattle.octets.specs.declared.refusal.Refusal.{Refusal}
 use Rattle.http_head.specs.declared.fields.Field.{Field as Spans}
 use Rattle.request.specs.declared.read.RequestPlaces.{RequestPlaces}
 
--- the request with the head has just the parts that stand at the places, in the head and in the list and the buffer as the code left them; and
--- code may go by the places
+-- the request with the head has just the parts that stand at the places, in the head and in the list and the buffer as the code
+-- left them; and code may go by the places
 pub record RequestStands (head : List ℕ) (places : List Spans) (path : List ℕ) (l : LinePlaces) (f : FieldPlaces) : Type 0 where
   pub answer : gives (request_in head places path l f) ≡ request_of head
   pub line : LineKnown head path l
@@ -29,7 +29,8 @@ pub record RequestStands (head : List ℕ) (places : List Spans) (path : List �
 -- what the numbers of an answer say of the request; a refusal is the request's own
 pub record RequestsTold : Type 0 where
   pub accepts :
-      (head : List ℕ) (places places' : List Spans) (path path' : List ℕ) (r : RequestPlaces) → RequestRead head places places' path path' (Ok r)
+      (head : List ℕ) (places places' : List Spans) (path path' : List ℕ) (r : RequestPlaces)
+      → RequestRead head places places' path path' (Ok r)
       → RequestStands head places' path' r.line r.fields
   pub refuses :
       (head : List ℕ) (places places' : List Spans) (path path' : List ℕ) (e : Refusal) → RequestRead head places places' path path' (Err e)

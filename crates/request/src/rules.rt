@@ -13,7 +13,7 @@ use octets::decimal;
 use octets::refusal::Refusal;
 use octets::span::Span;
 
-// The fields of one name.
+// The fields of one name. No Mark as in response: `named` is public and promises how many they are, which a Mark does not tell.
 #[derive(Clone, Copy)]
 pub struct Found {
     // How many they are.
