@@ -1,6 +1,6 @@
 #!/usr/bin/env bash
-# No function of the archive takes more than 24 KiB of stack for itself. The copy of a body goes through an array of 1 MiB that the compiler
-# must make vanish (bulk::copy::put_large), and no proof says that it does. tests/capi.sh calls the archive on a stack of 64 KiB besides.
+# No function of the archive takes more than 24 KiB of stack for itself, which no proof says. tests/capi.sh calls the archive on a stack of
+# 64 KiB besides.
 set -uo pipefail
 cd "$(dirname "${BASH_SOURCE[0]}")/.." || exit 2
 command -v objdump >/dev/null || { echo "stack: objdump is missing"; exit 1; }
