@@ -18,5 +18,5 @@ largest=$(objdump -d "${OY_ARCHIVE_DIR:-target/staticlib}/libcapi.a" |
         fi
     done | sort -n | tail -n 1)
 echo "stack: the largest frame of the archive has ${largest:-no} bytes"
-# a buffer of 16,384 bytes for the variables is there, so a smaller figure would say that frames are not seen
-[ "${largest:-0}" -ge 16384 ] && [ "$largest" -le 24576 ]
+# a buffer of 14,726 bytes for the variables is there, so a smaller figure would say that frames are not seen
+[ "${largest:-0}" -ge 14726 ] && [ "$largest" -le 24576 ]
