@@ -59,7 +59,7 @@ pub struct RequestLine {
     // How long the method is, at the line's start.
     pub method_len: usize,
     pub target: Span,
-    // The version's second digit.
+    // The version's second digit. A number and no enum: it goes to request's `check_rules`, which docs/ names and which takes every number.
     pub minor: u8,
 }
 

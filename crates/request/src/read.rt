@@ -13,7 +13,8 @@ use octets::refusal::Refusal;
 use octets::span::Span;
 use targets::target::target;
 
-// Where the parts of a request line stand, and how long the path is.
+// Where the parts of a request line stand, and how long the path is. Flat, with no RequestLine and TargetPlace within: the crates above
+// read each number by one name.
 #[derive(Clone, Copy)]
 pub struct LinePlaces {
     // How long the line is.
@@ -21,7 +22,7 @@ pub struct LinePlaces {
     // How long the method is, at the line's start.
     pub method: usize,
     pub target: Span,
-    // The version's second digit.
+    // The version's second digit. A number and no enum: `check_rules` takes it.
     pub minor: u8,
     // How long the target's path is, and how long it is decoded.
     pub path: usize,
@@ -49,7 +50,7 @@ fn read_line(head: &[u8], path: &mut [u8]) -> Result<LinePlaces, Refusal>
 // What the fields of a request say of it.
 #[derive(Clone, Copy)]
 pub struct FieldPlaces {
-    // How many fields there are, whose places are stored.
+    // How many fields there are, whose places are stored. A number beside the caller's list: there is no heap.
     pub count: usize,
     // The stated body length.
     pub body: u64,

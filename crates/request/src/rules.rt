@@ -77,7 +77,8 @@ pub struct Judged {
     pub content_type: Option<Span>,
 }
 
-// Judges the fields of a request of the version 1.0 or 1.1.
+// Judges the fields of a request of the version 1.0 or 1.1. Its promise holds for every minor, and docs/ names it: an enum of the two would
+// ask more of its callers.
 pub fn check_rules(fields: Fields, minor: u8) -> Result<Judged, Refusal>
     ensures { rules_outcome result ≡ judged_of (version_text minor) fields.entry.head.now fields.entry.places.now }
 {

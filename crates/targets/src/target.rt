@@ -12,7 +12,8 @@ use octets::kinds::Kind;
 use octets::refusal::Refusal;
 use octets::scan::{find, run_end};
 
-// The path is the first path_len bytes of a target, and decoded the first decoded_len bytes of the buffer.
+// The path is the first path_len bytes of a target, and decoded the first decoded_len bytes of the buffer. Numbers and no
+// slices: the claim TargetsTold speaks of them.
 #[derive(Clone, Copy, Debug, PartialEq, Eq)]
 pub struct TargetPlace {
     pub path_len: usize,
