@@ -5,8 +5,9 @@ use Prim.{absurd}
 use mathlib.Core.Path.{◌≡◌, refl, sym, ap, ◌∙◌}
 use mathlib.Core.Bool.{false, Bool, true, cond}
 use mathlib.Core.Logic.{⊎_elim}
-use mathlib.Core.List.{List, [], ◌∷◌, ◌++◌, append-nil}
+use mathlib.Core.List.{List, [], ◌++◌, append-nil}
 use native.Mathlib.Omega.{arith}
+use Rattle.std.proofs.lemmas.List.{nil_from_length}
 use lib.Dec.{eqb}
 use lib.ListN.{length, take, drop, length-drop, length-take}
 use borrow.Author.Tests.{eqb-true}
@@ -234,10 +235,6 @@ first-stage n e = by (eqb n 0) (eqb n 1) (eqb n 2) (eqb n 3) refl e
     by false false false true t e = cc
     by false false false false t e = cc
 
-no_bytes : (t : List ℕ) → length t ≡ 0 → t ≡ []
-no_bytes [] e = refl
-no_bytes (x ∷ t) e = absurd (omega arith)
-
 module _ (lent t b buffer : List ℕ) (s : Socket) (S : Stands lent t b buffer s) where
   in-digits : s.stage ≡ 0 → InLength s t b
   in-digits q = in-stage-of lent t b buffer s S 0 q
@@ -248,7 +245,7 @@ module _ (lent t b buffer : List ℕ) (s : Socket) (S : Stands lent t b buffer s
       (q, sym (digit-count s t b (in-digits q)) ∙ ap length e)
 
   new-then-none : (s.stage ≡ 0) × (s.digits ≡ 0) → t ≡ []
-  new-then-none h = no_bytes t (digit-count s t b (in-digits h.0) ∙ h.1)
+  new-then-none h = nil_from_length t (digit-count s t b (in-digits h.0) ∙ h.1)
 
 pub none-taken : NoneTaken
 none-taken lent taken body buffer s room c =

@@ -7,100 +7,92 @@ use mathlib.Core.Bool.{Bool, true, false, cond, false≢true}
 use mathlib.Core.List.{List}
 use native.Mathlib.Omega.{arith}
 use lib.Dec.{eqb, leb}
-use lib.ListN.{length, get_or, take, drop, length-drop}
-use lib.Seq.{take_all, drop-drop, get_or-drop}
+use lib.ListN.{length, get_or, take, drop}
+use lib.Seq.{take_all}
 use borrow.Author.Tests.{lt-ltb, le-ltb, le-leb, lt-leb, eq-eqb, ne_eqb, leb-true, leb-false}
 use Rattle.octets.specs.Outcome.{Outcome, refused, gives}
 use Rattle.octets.specs.Copy.{over}
 use Rattle.octets.proofs.Bools.{and-false}
-use Rattle.octets.proofs.Lists.{part}
+use Rattle.octets.proofs.Lists.{from}
 use Rattle.scgi.specs.Check.{check_block}
 use Rattle.scgi.specs.declared.netstring.Digits.{Digits}
 use Rattle.socket.specs.Socket.{in_block, in_body, at_end, at_fault, stage_of, stage_number, begun, new, faulted, moved, Fits, is_kept, soundly}
 use Rattle.socket.specs.Socket.{at_more, step_at_fault, step_at_end, too_short, fed_body, fed_checked, fed_block, fed_by, fed_at, feed_of, fed_digits}
 use Rattle.socket.specs.declared.reader.Socket.{Socket}
 
-module _ (s : Socket) (run : List ℕ) (at : ℕ) where
+module _ (s : Socket) (run : List ℕ) where
   -- the body
   pub body_more :
-      length run - at < s.body - s.seen
-      → fed_body s (drop at run) ≡ at_more (moved (stage_number in_body) s s.stored s.body (s.seen + (length run - at))) (length run - at)
+      length run < s.body - s.seen
+      → fed_body s run ≡ at_more (moved (stage_number in_body) s s.stored s.body (s.seen + length run)) (length run)
   unfolding fed_body
-  body_more h = rw (length-drop at run, lt-ltb (length run - at) (s.body - s.seen) h)
+  body_more h = rw (lt-ltb (length run) (s.body - s.seen) h)
 
   pub body-whole :
-      s.body - s.seen ≤ length run - at
-      → fed_body s (drop at run)
-      ≡ step_at_end (moved (stage_number at_end) s s.stored s.body s.body) (s.body - s.seen) (length run - at - (s.body - s.seen))
+      s.body - s.seen ≤ length run
+      → fed_body s run ≡ step_at_end (moved (stage_number at_end) s s.stored s.body s.body) (s.body - s.seen) (length run - (s.body - s.seen))
   unfolding fed_body
-  body-whole h = rw (length-drop at run, le-ltb (length run - at) (s.body - s.seen) h)
+  body-whole h = rw (le-ltb (length run) (s.body - s.seen) h)
 
   -- the block's bytes that the run has: m of them
-  module _ (buffer : List ℕ) (m : ℕ) (e : m ≡ min (length run - at) (s.len - s.stored)) where
+  module _ (buffer : List ℕ) (m : ℕ) (e : m ≡ min (length run) (s.len - s.stored)) where
     abbrev filled : List ℕ
-    filled = over buffer s.stored (take (at + m - at) (drop at run))
+    filled = over buffer s.stored (take m run)
 
-    part-is : take (s.len - s.stored) (drop at run) ≡ take (at + m - at) (drop at run)
-    part-is = by (leb (length run - at) (s.len - s.stored)) refl ∙ sym (part run at m)
+    part-is : take (s.len - s.stored) run ≡ take m run
+    part-is = by (leb (length run) (s.len - s.stored)) refl
       where
-        by : (t : Bool) → leb (length run - at) (s.len - s.stored) ≡ t → take (s.len - s.stored) (drop at run) ≡ take m (drop at run)
+        by : (t : Bool) → leb (length run) (s.len - s.stored) ≡ t → take (s.len - s.stored) run ≡ take m run
         by true q =
-            let h = leb-true (length run - at) (s.len - s.stored) q in
-            let l : length (drop at run) ≡ length run - at = length-drop at run in
-            take_all (s.len - s.stored) (drop at run) (omega arith) ∙ sym (take_all m (drop at run) (omega arith))
+            let h = leb-true (length run) (s.len - s.stored) q in
+            take_all (s.len - s.stored) run (omega arith) ∙ sym (take_all m run (omega arith))
         by false q =
-            let h = leb-false (length run - at) (s.len - s.stored) q in
+            let h = leb-false (length run) (s.len - s.stored) q in
             let l : s.len - s.stored ≡ m = omega arith in
-            ap (λ (n : ℕ). take n (drop at run)) l
+            ap (λ (n : ℕ). take n run) l
 
     pub block_more :
-        length run - at ≤ s.len - s.stored
-        → fed_block s (drop at run) buffer
-        ≡ record { step = at_more (moved (stage_number in_block) s (s.stored + (length run - at)) s.body s.seen) 0; buffer = filled }
+        length run ≤ s.len - s.stored
+        → fed_block s run buffer
+        ≡ record { step = at_more (moved (stage_number in_block) s (s.stored + length run) s.body s.seen) 0; buffer = filled }
     unfolding fed_block
-    block_more h = rw (part-is, length-drop at run, le-leb (length run - at) (s.len - s.stored) h)
+    block_more h = rw (part-is, le-leb (length run) (s.len - s.stored) h)
 
-    module _ (h : s.len - s.stored < length run - at) where
+    module _ (h : s.len - s.stored < length run) where
       all_left : s.len - s.stored ≡ m
       all_left = omega arith
 
-      at-comma : get_or (drop at run) (s.len - s.stored) 0 ≡ get_or run (at + m) 0
-      at-comma = get_or-drop at run (s.len - s.stored) 0 ∙ ap (λ (n : ℕ). get_or run (at + n) 0) all_left
+      at-comma : get_or run (s.len - s.stored) 0 ≡ get_or run m 0
+      at-comma = ap (λ (n : ℕ). get_or run n 0) all_left
 
       pub block-fault :
-          (get_or run (at + m) 0 ≡ 44 → ⊥) → fed_block s (drop at run) buffer ≡ record { step = step_at_fault 4; buffer = filled }
+          (get_or run m 0 ≡ 44 → ⊥) → fed_block s run buffer ≡ record { step = step_at_fault 4; buffer = filled }
       unfolding fed_block
       block-fault q =
-          rw (part-is, length-drop at run, lt-leb (length run - at) (s.len - s.stored) h, at-comma, ne_eqb (get_or run (at + m) 0) 44 q)
+          rw (part-is, lt-leb (length run) (s.len - s.stored) h, at-comma, ne_eqb (get_or run m 0) 44 q)
+
+      -- what is left behind the comma, as the code passes it
+      behind-comma : drop (s.len - s.stored + 1) run ≡ take (length run - (m + 1)) (drop (m + 1) run)
+      behind-comma = ap (λ (n : ℕ). drop (n + 1) run) all_left ∙ sym (from run (m + 1))
 
       pub block-comma :
-          get_or run (at + m) 0 ≡ 44
-          → fed_block s (drop at run) buffer
+          get_or run m 0 ≡ 44
+          → fed_block s run buffer
           ≡ record {
             step =
-                fed_checked (moved s.stage s s.len s.body s.seen) (drop (at + m + 1) run) (check_block (take s.len filled));
+                fed_checked (moved s.stage s s.len s.body s.seen) (take (length run - (m + 1)) (drop (m + 1) run)) (check_block (take s.len filled));
             buffer = filled;
           }
       unfolding fed_block
       block-comma q =
-          let j : at + (s.len - s.stored + 1) ≡ at + m + 1 = omega (arith, all_left) in
-          let d : drop (s.len - s.stored + 1) (drop at run) ≡ drop (at + m + 1) run =
-          drop-drop (s.len - s.stored + 1) at run ∙ ap (λ (n : ℕ). drop n run) j in
-          rw (
-            part-is,
-            length-drop at run,
-            lt-leb (length run - at) (s.len - s.stored) h,
-            at-comma,
-            eq-eqb (get_or run (at + m) 0) 44 q,
-            d,
-          )
+          rw (part-is, lt-leb (length run) (s.len - s.stored) h, at-comma, eq-eqb (get_or run m 0) 44 q, behind-comma)
 
   -- the block's judgement
-  pub block_refused : (k : ℕ) (o : Outcome ℕ) → o ≡ refused k → fed_checked s (drop at run) o ≡ step_at_fault k
+  pub block_refused : (k : ℕ) (o : Outcome ℕ) → o ≡ refused k → fed_checked s run o ≡ step_at_fault k
   unfolding fed_checked
   block_refused k o e = rw e
 
-  pub block-right : (n : ℕ) (o : Outcome ℕ) → o ≡ gives n → fed_checked s (drop at run) o ≡ fed_body (moved s.stage s s.stored n 0) (drop at run)
+  pub block-right : (n : ℕ) (o : Outcome ℕ) → o ≡ gives n → fed_checked s run o ≡ fed_body (moved s.stage s s.stored n 0) run
   unfolding fed_checked
   block-right n o e = rw e
 
@@ -115,9 +107,9 @@ module _ (s : Socket) (run buffer : List ℕ) (o : Outcome Digits) where
     unfolding fed_by
     digits_more f = rw (e, f)
 
-    pub digits-colon : c ≡ true → fed_by s run buffer o ≡ fed_block (begun n v) (drop (n - s.digits + 1) run) buffer
+    pub digits-colon : c ≡ true → fed_by s run buffer o ≡ fed_block (begun n v) (take (length run - (n - s.digits + 1)) (drop (n - s.digits + 1) run)) buffer
     unfolding fed_by
-    digits-colon f = rw (e, f)
+    digits-colon f = rw (e, f, from run (n - s.digits + 1))
 
 -- States within the limits.
 

@@ -1,17 +1,18 @@
 // The reader's state, by value, and what each run of bytes makes of it.
-ghost use Rattle.std.specs.Prelude.{◌≡◌, ◌≤◌, ◌<◌, length, take, drop};
+ghost use Rattle.std.specs.Prelude.{◌≡◌, ◌≤◌, ◌<◌, length, take};
 ghost use Rattle.octets.specs.Refusal.{number_of};
 ghost use Rattle.scgi.specs.Check.{check_block};
 ghost use Rattle.socket.specs.Socket.{begun, new, faulted, Fits, answer_outcome, Fed, FedIn};
-ghost use Rattle.socket.specs.Socket.{at_more, step_at_fault, step_at_end, end_of, fed_body, fed_checked, fed_block, fed_digits, feed_of, soundly, sound_refusal};
+ghost use Rattle.socket.specs.Socket.{at_more, step_at_fault, step_at_end, end_of, soundly, sound_refusal};
+ghost use Rattle.socket.specs.Socket.{fed_body, fed_checked, fed_block, fed_digits, feed_of};
 
 use bulk::copy::put_any;
 use octets::refusal::Refusal;
 use scgi::check::check_block;
 use scgi::netstring::{Digits, read_digits};
 
-// How far the request has come: in the length digits; in the block, or before its comma; in the body; whole; refused. By number and not as an
-// enum, since a C program keeps the state, which may come back with any number.
+// How far the request has come: in the length digits; in the block, or before its comma; in the body; whole; refused. By number and not
+// as an enum, since a C program keeps the state, which may come back with any number.
 const LENGTH: usize = 0;
 
 const BLOCK: usize = 1;
@@ -148,8 +149,8 @@ impl Socket {
         };
         match sound.state.stage {
             LENGTH => sound.take_digits(run, block),
-            BLOCK => sound.take_block(run, 0, block),
-            BODY => sound.take_body(run, 0),
+            BLOCK => sound.take_block(run, block),
+            BODY => sound.take_body(run),
             _ => sound.done(0, run.len()),
         }
     }
@@ -205,12 +206,11 @@ impl Sound {
         }
     }
 
-    // The body, from a place of the run on.
-    fn take_body(mut self, run: &[u8], at: usize) -> Taken
-        requires { at ≤ length run.now }
-        ensures { Fed (fed_body self.state (drop at run.now)) result }
+    // The body, of which this is what the run has left.
+    fn take_body(mut self, run: &[u8]) -> Taken
+        ensures { Fed (fed_body self.state run.now) result }
     {
-        let have = run.len() - at;
+        let have = run.len();
         let left = self.state.body - self.state.seen;
         if have < left {
             self.state.stage = BODY;
@@ -223,30 +223,31 @@ impl Sound {
     }
 
     // The comma came: the block is judged where it is stored.
-    fn take_comma(mut self, run: &[u8], at: usize, block: &[u8]) -> Taken
-        requires { (at ≤ length run.now) × (16384 ≤ length block.now) }
-        ensures { Fed (fed_checked self.state (drop at run.now) (check_block (take self.state.len block.now))) result }
+    fn take_comma(mut self, run: &[u8], block: &[u8]) -> Taken
+        requires { 16384 ≤ length block.now }
+        ensures { Fed (fed_checked self.state run.now (check_block (take self.state.len block.now))) result }
     {
         match check_block(&block[..self.state.len]) {
             Ok(body) => {
                 self.state.body = body;
                 self.state.seen = 0;
-                self.take_body(run, at)
+                self.take_body(run)
             }
             Err(refusal) => Taken::refused(refusal),
         }
     }
 
-    // The block, from a place of the run on, and the comma behind it.
-    fn take_block(mut self, run: &[u8], at: usize, block: &mut [u8]) -> Taken
-        requires { (at ≤ length run.now) × (16384 ≤ length block.old) }
-        ensures { FedIn (fed_block self.state (drop at run.now) block.old) block.new result }
+    // The block, of which this is what the run has left, and the comma behind it. The buffer's length is required and is no array's, here
+    // and in the steps beside it: a longer buffer may be lent.
+    fn take_block(mut self, run: &[u8], block: &mut [u8]) -> Taken
+        requires { 16384 ≤ length block.old }
+        ensures { FedIn (fed_block self.state run.now block.old) block.new result }
     {
-        let have = run.len() - at;
+        let have = run.len();
         let stored = self.state.stored;
         let left = self.state.len - stored;
-        let comma = at + have.min(left);
-        put_any(block, stored, &run[at..comma]);
+        let comma = have.min(left);
+        put_any(block, stored, &run[..comma]);
         if have <= left {
             self.state.stage = BLOCK;
             self.state.stored = stored + have;
@@ -256,7 +257,7 @@ impl Sound {
             return Taken::refused(Refusal::NoComma);
         }
         self.state.stored = self.state.len;
-        self.take_comma(run, comma + 1, block)
+        self.take_comma(&run[comma + 1..], block)
     }
 
     // The length digits, and the block behind their colon.
@@ -275,7 +276,7 @@ impl Sound {
             ) => {
                 self.state = Socket::begun(count, value);
                 if colon {
-                    return self.take_block(run, count - before + 1, block);
+                    return self.take_block(&run[count - before + 1..], block);
                 }
                 self.more(0)
             }

@@ -16,9 +16,9 @@ invariant_of-self c =
 pub returns-in-Ok : goal.returns-in-Ok
 returns-in-Ok c =
     let e = c.in-Ok.ensures in
-    rw (block-right c.args.self.state c.args.run.now c.args.at _ _ (sym e)) c.take_body.ensures
+    rw (block-right c.args.self.state c.args.run.now _ _ (sym e)) c.take_body.ensures
 
 pub returns-in-Err : goal.returns-in-Err
 returns-in-Err c =
     let e = c.in-Err.ensures in
-    rw (block_refused c.args.self.state c.args.run.now c.args.at _ _ (sym e)) c.refused.ensures
+    rw (block_refused c.args.self.state c.args.run.now _ _ (sym e)) c.refused.ensures

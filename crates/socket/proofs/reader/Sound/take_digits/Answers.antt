@@ -37,10 +37,15 @@ invariant_of-self c =
     let w = sound _ _ _ (bounds (goal.at.invariant_of-self c).In-Ok) _ c.begun-self.ensures in
     record { fits = w.0; kept = w.1 }
 
-pub take_block-requires : goal.take_block-requires
-take_block-requires c =
-    let w = bounds (goal.at.take_block-requires c).In-Ok in
-    (omega (arith, w.onward, w.colon_there c.if-colon.true), c.requires)
+pub slice_bounds-take_block-count : goal.slice_bounds-take_block-count
+slice_bounds-take_block-count c =
+    let w = bounds (goal.at.slice_bounds-take_block-count c).In-Ok in
+    omega (arith, w.onward, w.colon_there c.if-colon.true)
+
+pub slice_bounds-take_block-start : goal.slice_bounds-take_block-start
+slice_bounds-take_block-start c =
+    let w = bounds (goal.at.slice_bounds-take_block-start c).In-Ok in
+    omega (arith, w.onward, w.colon_there c.if-colon.true)
 
 pub returns-then-colon : goal.returns-then-colon
 returns-then-colon c =
