@@ -9,7 +9,7 @@ use Rattle.std.proofs.Common.{Ok, Err}
 use lib.Dec.{eqb}
 use lib.ListN.{length, take, drop, get_or, length-append, length-take, length-drop}
 use lib.Seq.{drop-drop, take_at, drop_at, length-take-le}
-use borrow.Author.Tests.{eq-eqb, ne_eqb, le-leb, lt-leb}
+use borrow.Author.Tests.{ne_eqb, le-leb, lt-leb}
 use Rattle.octets.specs.Text.{bytes}
 use Rattle.octets.specs.Outcome.{Outcome, refused, gives, then, need}
 use Rattle.octets.specs.Kinds.{is_digit, is_letter, is_token, within}
@@ -45,29 +45,6 @@ module _ (m : List ℕ) where
   token-method z l =
       let e : 0 + run is_token m ≡ run is_token m = omega arith in
       sym (rw (all-same-run is_token m, le-leb 1 (length m) (omega arith), le-leb (length m) 32 l, e))
-
--- the version's shape
-module _ (v : List ℕ) where
-  pub other_length : (length v ≡ 8 → ⊥) → is_version v ≡ false
-  unfolding is_version
-  other_length h = simp (ne_eqb _ _ h)
-
-  pub other_name : same_bytes (take 5 v) (bytes "HTTP/") ≡ false → is_version v ≡ false
-  unfolding is_version
-  other_name h = simp (h, and-false)
-
-  pub other-major : is_digit (get_or v 5 0) ≡ false → is_version v ≡ false
-  unfolding is_version
-  other-major h = simp (h, and-false)
-
-  pub other-dot : (get_or v 6 0 ≡ 46 → ⊥) → is_version v ≡ false
-  unfolding is_version
-  other-dot h = simp (ne_eqb _ _ h, and-false)
-
-  pub last-digit :
-      length v ≡ 8 → same_bytes (take 5 v) (bytes "HTTP/") ≡ true → is_digit (get_or v 5 0) ≡ true → get_or v 6 0 ≡ 46 → is_version v ≡ is_digit (get_or v 7 0)
-  unfolding is_version
-  last-digit l n d p = simp (eq-eqb _ _ l, n, d, eq-eqb _ _ p)
 
 -- the version
 pub version-0 : (v : List ℕ) → same_bytes v (bytes "HTTP/1.0") ≡ true → version_of v ≡ gives (version_text 0)

@@ -21,13 +21,15 @@ fn is_method(s: &[u8]) -> bool
 }
 
 // Whether s is `HTTP/`, digit, `.`, digit.
+#[tactic(auto, unfolding(crate::specs::RequestLine::is_version, octets::specs::Kinds::is_digit))]
 fn is_version(s: &[u8]) -> bool
     ensures { result ≡ is_version s.now }
 {
-    if s.len() != 8 || !same(&s[..5], b"HTTP/") || s[6] != b'.' {
-        return false;
-    }
-    s[5].is_ascii_digit() && s[7].is_ascii_digit()
+    s.len() == 8
+        && same(&s[..5], b"HTTP/")
+        && s[5].is_ascii_digit()
+        && s[6] == b'.'
+        && s[7].is_ascii_digit()
 }
 
 // Whether s is the eight bytes t. By `eight_at`, for speed: it compares them as one number.
