@@ -1,5 +1,7 @@
 // The call: edition, method and a script's whole output in, the action out.
-ghost use Rattle.std.specs.Prelude.{◌≡◌};
+ghost use Rattle.std.specs.Prelude.{◌≡◌, Some};
+ghost use Rattle.octets.specs.Text.{bytes};
+ghost use Rattle.octets.specs.declared.refusal.Refusal.TheVariants.{Lent};
 ghost use Rattle.response.specs.Table.{has_location, response_outcome};
 ghost use Rattle.editions.specs.Edition.{may_redirect, allowed, response_by, Names};
 
@@ -38,12 +40,23 @@ impl TryFrom<u64> for Edition {
 }
 
 impl fmt::Display for UnknownEdition {
+    ghost output = { λ _. Some (bytes "no edition has the number") };
+
     fn fmt<W: fmt::Write>(&self, f: &mut fmt::Formatter<W>) -> fmt::Result {
         f.write_str("no edition has the number")
     }
 }
 
 impl Error for UnknownEdition {}
+
+// "settings .. wrong": a number that names no edition is the caller's fault.
+impl From<UnknownEdition> for Refusal {
+    ghost from_gives = { λ _ r. r ≡ Lent };
+
+    fn from(_: UnknownEdition) -> Self {
+        Refusal::Lent
+    }
+}
 
 // Whether the draft lets a script send Location for the method: GET or HEAD.
 fn may_redirect(method: &[u8]) -> bool
