@@ -5,7 +5,8 @@ ghost use Rattle.octets.specs.Lists.{is_in};
 ghost use Rattle.octets.specs.Copy.{Wrote};
 ghost use Rattle.variables.specs.Fields.{not_passed, separator};
 ghost use Rattle.variables.specs.Variables.{variable_byte, http_name};
-ghost use Rattle.variables.specs.FieldVariables.{low_name, names_before, added_at, added_after, variable_from, variable_alone, variable_if, fields_bytes, repeats};
+ghost use Rattle.variables.specs.FieldVariables.{low_name, names_before, repeats, added_at, added_after};
+ghost use Rattle.variables.specs.FieldVariables.{variable_from, variable_alone, variable_if, fields_bytes};
 ghost use Rattle.variables.specs.Writer.{Fits, Appended};
 
 use crate::writer::Writer;
@@ -158,7 +159,7 @@ fn put_new(fields: Fields, k: usize, repeat: bool, w: &mut Writer)
 }
 
 // Writes one variable for each name of the passed fields, by first appearance.
-// Where repeat is false no name is there twice, and each field is written with no further comparison.
+// repeat is for speed: known before, it lets each field be written with no comparison where no name is there twice.
 pub fn put_fields(fields: Fields, repeat: bool, w: &mut Writer)
     requires { (repeat ≡ repeats fields.head.now fields.places.now) × Fits w.old (fields_bytes fields.head.now fields.places.now) }
     ensures { Appended w.old w.new (fields_bytes fields.entry.head.now fields.entry.places.now) }

@@ -8,7 +8,7 @@ use Rattle.variables.specs.declared.writer.Writer.{Writer}
 use Rattle.variables.proofs.Writers.{Left, left-all, row_room, row_more, row_last}
 use Rattle.variables.proofs.FixedVariables.{rest-take}
 use Rattle.variables.proofs.fixed_variables.put_path.Goals as goal
-use Rattle.variables.proofs.fixed_variables.put_path.Goals.{Start, After-text}
+use Rattle.variables.proofs.fixed_variables.put_path.Goals.{Start}
 
 abbrev rows : Start → List Header
 rows s = path_variables s.args.s.now

@@ -7,7 +7,7 @@ use Rattle.variables.specs.FixedVariables.{server_variables}
 use Rattle.variables.specs.declared.writer.Writer.{Writer}
 use Rattle.variables.proofs.Writers.{Left, left-all, row_room, row_more, row_last}
 use Rattle.variables.proofs.fixed_variables.put_server.Goals as goal
-use Rattle.variables.proofs.fixed_variables.put_server.Goals.{Start, After-variable}
+use Rattle.variables.proofs.fixed_variables.put_server.Goals.{Start}
 
 abbrev rows : Start → List Header
 rows s = server_variables s.args.s.now
