@@ -6,8 +6,9 @@ ghost use Rattle.capi.specs.Feed.{FedAnswered};
 use crate::answer::refused;
 use socket::reader::Socket;
 
-// What a run of bytes gave: the state for the next call; 0 at the end, 1 before it, else the refusal; how many bytes of the run belong to the
-// body and how many come after the end; at the end the lengths of block and body and the bytes used, else 0.
+// What a run of bytes gave: the state for the next call; 0 at the end, 1 before it, else the refusal; how many bytes of the run belong to
+// the body and how many come after the end; at the end the lengths of block and body and the bytes used, else 0. The numbers and the
+// zeros are those of C programs, which have no Option and no enum.
 #[repr(C)]
 #[derive(Clone, Copy)]
 pub struct Fed {

@@ -13,20 +13,14 @@ use response::table::{Action, Answer};
 fn action_number(action: Action) -> u64
     ensures { result ≡ action_number action }
 {
-    match action {
-        Action::Serve => 1,
-        Action::Redirect => 2,
-        Action::RedirectDocument => 3,
-        Action::Document => 4,
-    }
+    action as u64
 }
 
 // The response under the edition of the number, which is read before anything else.
 fn respond_for(edition: u64, method: &[u8], script: &[u8]) -> Result<Answer, Refusal>
     ensures { response_outcome result ≡ response_for edition method.now script.now }
 {
-    // "settings .. wrong": a number that names no edition is the caller's fault.
-    let edition = Edition::try_from(edition).ok().ok_or(Refusal::Lent)?;
+    let edition = Edition::try_from(edition)?;
     respond_by(edition, method, script)
 }
 

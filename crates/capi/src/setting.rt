@@ -5,8 +5,8 @@ ghost use Rattle.capi.specs.Setting.{setting_gives};
 use crate::answer::{give, refused};
 use headers::setting::{Held, find_setting};
 
-// Where the value of a name stands, the connection facts before the site settings. Gives 0 absent, 1 in the facts, 2 in the site settings; start
-// and length in that block.
+// Where the value of a name stands, the connection facts before the site settings. Gives 0 absent, 1 in the facts, 2 in the site settings;
+// start and length in that block. The first is a number for C, as that of `oy_scgi_find`.
 pub fn oy_setting(facts: &[u8], site: &[u8], name: &[u8], answer: &mut [u64]) -> u64
     ensures { Answered (setting_gives facts.now site.now name.now) answer.old answer.new result }
 {

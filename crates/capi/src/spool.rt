@@ -19,8 +19,8 @@ fn ending_numbers(ending: Ending) -> (u64, u64)
     }
 }
 
-// Stores the byte length of each request of a spool, from the front. Gives how many are stored; the ending, 0 whole, 1 cut, 2 refused, 3 list
-// full; the refusal's number or 0. An ending is no refusal of the call, so an answer that is too short is seen first.
+// Stores the byte length of each request of a spool, from the front. Gives how many are stored; the ending, 0 whole, 1 cut, 2 refused,
+// 3 list full; the refusal's number or 0. An ending is no refusal of the call, so an answer that is too short is seen first.
 pub fn oy_spool(bytes: &[u8], lengths: &mut [u64], answer: &mut [u64]) -> u64
     ensures { SpoolAnswered bytes.now lengths.old lengths.new answer.old answer.new result }
 {

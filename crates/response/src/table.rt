@@ -8,13 +8,13 @@ use crate::fields::Mark;
 use octets::refusal::Refusal;
 use octets::span::Span;
 
-// What the server is to do.
+// What the server is to do, by the numbers of C programs: the rows of the table in their order.
 #[derive(Clone, Copy, Debug, PartialEq, Eq)]
 pub enum Action {
-    Serve,
-    Redirect,
-    RedirectDocument,
-    Document,
+    Serve = 1,
+    Redirect = 2,
+    RedirectDocument = 3,
+    Document = 4,
 }
 
 // An action, its status, and where the Location's value and the body stand. For serving a target the status is 0, and without a Location
