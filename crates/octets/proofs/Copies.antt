@@ -86,17 +86,6 @@ pub over-nil : (d : List ℕ) (at : ℕ) → over d at [] ≡ d
 unfolding over
 over-nil d at = rw (add-zero at) (take-append-drop at d)
 
--- two numbers stored, and the rest written behind them
-pub two-stored :
-    (d : List ℕ) (at x y : ℕ) (rest : List ℕ) → at + 2 + length rest ≤ length d
-    → over (set (set d at x) (at + 1) y) (at + 2) rest ≡ over d at (x ∷ (y ∷ rest))
-two-stored d at x y rest room =
-    let one : set d at x ≡ over d at (x ∷ []) = one_byte d at x (omega arith) in
-    let l : length (over d at (x ∷ [])) ≡ length d = length_over d at (x ∷ []) (omega arith) in
-    let two : set (over d at (x ∷ [])) (at + 1) y ≡ over d at (x ∷ (y ∷ [])) =
-    one_byte (over d at (x ∷ [])) (at + 1) y (omega arith) ∙ over-over d at (x ∷ []) (omega arith) (y ∷ []) in
-    rw (one, two) (over-over d at (x ∷ (y ∷ [])) (omega arith) rest)
-
 -- one write after another: what a row of writes has done
 pub and_then :
     {d : List ℕ} {at : ℕ} {p d' : List ℕ} {r : ℕ} → Wrote d at p d' r → at + length p ≤ length d → (q d'' : List ℕ) (r' : ℕ)
@@ -107,7 +96,7 @@ and_then {d} {at} {p} w room q d'' r' e =
       holds = e.holds ∙ rw (w.holds, w.ends) (over-over d at p room q);
     }
 
--- a list written chunk after chunk: its first i bytes are written, then n more, or all the rest
+-- a list written chunk after chunk: its first i bytes are written, then n more
 module _ {d : List ℕ} {at : ℕ} (s : List ℕ) (i : ℕ) {d' : List ℕ} (w : Wrote d at (take i s) d' (at + i)) (room : at + length s ≤ length d) (d'' : List ℕ) (r : ℕ) where
   pub chunk-then : (n : ℕ) → i + n ≤ length s → Wrote d' (at + i) (take n (drop i s)) d'' r → Wrote d at (take (i + n) s) d'' (at + (i + n))
   chunk-then n h e =
@@ -116,12 +105,6 @@ module _ {d : List ℕ} {at : ℕ} (s : List ℕ) (i : ℕ) {d' : List ℕ} (w :
         ends = simp length-take (omega arith);
         holds = rw (take-add i n s) (and_then w (omega (arith, l)) (take n (drop i s)) d'' r e).holds;
       }
-
-  pub rest_then : i ≤ length s → Wrote d' (at + i) (take (length s - i) (drop i s)) d'' r → Wrote d at s d'' r
-  rest_then h e =
-      let l : length (take i s) ≡ i = simp length-take (omega arith) in
-      let all : take (length s - i) (drop i s) ≡ drop i s = ap (λ (k : ℕ). take k (drop i s)) (sym (length-drop i s)) ∙ take-length (drop i s) in
-      rw (all, take-append-drop i s) at (and_then w (omega (arith, l)) (take (length s - i) (drop i s)) d'' r e)
 
 -- a list written to the front of a buffer is the front of that
 pub front-is : (d p : List ℕ) {d' : List ℕ} {r : ℕ} → length p ≤ length d → Wrote d 0 p d' r → take r d' ≡ p
