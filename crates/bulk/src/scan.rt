@@ -58,7 +58,8 @@ pub fn find_far(s: &[u8], from: usize, b: u8) -> usize
     }
 }
 
-// The same for a byte that may be near: of sixteen bytes by `find`, and then by sixteen at once.
+// The same for a byte that may be near: of sixteen bytes by `find`, and then by `find_far`, which takes three times as long as `find` where
+// the byte is 3 places off, and as long as it at 14.
 pub fn find_soon(s: &[u8], from: usize, b: u8) -> usize
     requires { from ≤ length s.now }
     ensures { result ≡ from + run (other b) (drop from s.now) }
