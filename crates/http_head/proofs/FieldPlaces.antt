@@ -175,6 +175,7 @@ module _ (rule : ℕ → Bool) (head : List ℕ) (before after : List Spans) whe
       record {
         answer = ap gives (ap (fields_at head) q ∙ t.fields) ∙ sym g.first;
         inside = rw q t.inside;
+        stored = q;
         room = omega (arith, ap length s.places, length-append (places_of head) (drop (length (places_of head)) before), p);
         count = sym l;
         few = omega (arith, m.few);
@@ -186,9 +187,3 @@ module _ (rule : ℕ → Bool) (head : List ℕ) (before after : List Spans) whe
       by : (o : Outcome (List Field)) → ◌≡◌ {A = Outcome ℕ} (refused (number_of e)) (then o (λ fs. gives (length fs))) → refused (number_of e) ≡ o
       by (refused m) x = cc
       by (gives fs) x = cc
-
-  -- the places that were stored
-  pub stored-places : (n : ℕ) → Stored rule head before after (Ok n) → take n after ≡ places_of head
-  stored-places n s =
-      let p : length (places_of head) ≡ n = places-length (line_run head + 2) (lines_of head).others ∙ sym (stored-stand n s).count in
-      ap (take n) s.places ∙ take_at (places_of head) (drop (length (places_of head)) before) n p

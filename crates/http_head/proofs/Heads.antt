@@ -16,16 +16,8 @@ use Rattle.octets.proofs.Bools.{and_left, and_right}
 use Rattle.octets.proofs.Outcomes.{given-gives}
 use Rattle.octets.proofs.Lists.{next, there, part-more}
 use Rattle.std.proofs.lemmas.Bool.{or_parts}
-use Rattle.std.specs.Option.{ok_or}
-use Rattle.octets.specs.Refusal.{number_of}
-use Rattle.octets.specs.declared.refusal.Refusal.{Refusal}
-use Rattle.http_head.specs.Head.{head_outcome, ends_head, end_from, Passed, head_of}
+use Rattle.http_head.specs.Head.{ends_head, end_from, Passed, head_of}
 use Rattle.http_head.specs.Claims.{HeadWithin}
-
--- an answer that may be missing, or the refusal
-pub or_refused : (o : Option ℕ) (e : Refusal) → head_outcome (ok_or o e) ≡ given o (number_of e)
-or_refused None e = refl
-or_refused (Some n) e = refl
 
 -- a head within the limit, and one that may reach past it
 pub under-limit : (s : List ℕ) → length s < 8192 → head_of s ≡ given (end_from 0 s) 1

@@ -10,7 +10,7 @@ use Rattle.http_head.specs.Lines.{lines_of, line_run}
 use Rattle.http_head.specs.RequestLine.{FirstLine, is_method, is_version, is_served, version_text}
 use Rattle.http_head.specs.RequestLine.{request_line_of, line_places_of, line_outcome}
 use Rattle.http_head.specs.Fields.{Field, is_field_name, field_of, fields_of, name_length, value_start, value_length}
-use Rattle.http_head.specs.Fields.{Stored, field_at, fields_at, AllInside, part_at}
+use Rattle.http_head.specs.Fields.{Stored, places_of, field_at, fields_at, AllInside, part_at}
 use Rattle.octets.specs.Refusal.{number_of}
 use Rattle.octets.specs.declared.refusal.Refusal.{Refusal}
 use Rattle.http_head.specs.declared.request_line.RequestLine.{RequestLine}
@@ -95,6 +95,7 @@ pub record FieldsObey : Type 0 where
 pub record FieldsStand (rule : ℕ → Bool) (head : List ℕ) (places : List Spans) (n : ℕ) : Type 0 where
   pub answer : gives (fields_at head (take n places)) ≡ fields_of rule (lines_of head).others
   pub inside : AllInside head (take n places)
+  pub stored : take n places ≡ places_of head
   pub room : n ≤ length places
   pub count : n ≡ length (lines_of head).others
   pub few : n ≤ 64

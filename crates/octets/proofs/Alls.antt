@@ -1,13 +1,14 @@
 -- What holds of each entry of a list, and equal lists that are parted at a byte or at a length.
 -- Assumes nothing.
 use Prim.Native.Nat.{ℕ, zero, suc}
-use mathlib.Core.Path.{◌≡◌, sym, ap, ◌∙◌}
+use mathlib.Core.Path.{◌≡◌, refl, sym, ap, ◌∙◌}
 use mathlib.Core.Bool.{Bool, true, false, false≢true, not, ◌&&◌}
 use mathlib.Core.List.{List, [], ◌∷◌, ◌++◌, map}
 use lib.Dec.{eqb}
 use lib.ListN.{length, take, drop}
 use lib.Seq.{take-append_seam, drop-append_seam}
 use borrow.Author.Tests.{eqb-false, not-true}
+use Rattle.std.specs.List.{list_all}
 use Rattle.octets.specs.Lists.{All, no_more, ◌&◌, Without, NoNul}
 use Rattle.octets.specs.Scan.{all_of}
 use Rattle.octets.proofs.Bools.{and_left, and_right}
@@ -57,3 +58,9 @@ pub all_after : {A : Type 0} {P : A → Type 0} (k : ℕ) (l : List A) → All P
 all_after zero l p = p
 all_after (suc k) [] no_more = no_more
 all_after (suc k) (a ∷ l) (p & ps) = all_after k l ps
+
+-- the library's word for a test of each byte is the crate's
+pub all-listed : (p : ℕ → Bool) (s : List ℕ) → list_all p s ≡ all_of p s
+unfolding all_of
+all-listed p [] = refl
+all-listed p (b ∷ s) = ap (λ t. p b && t) (all-listed p s)

@@ -6,6 +6,9 @@ use native.Mathlib.Omega.{arith}
 use mathlib.Core.Path.{◌≡◌, refl}
 use mathlib.Core.Bool.{Bool, true, false, false≢true}
 use Rattle.std.proofs.Common.{Option, None, Some}
+use Rattle.std.specs.Prelude.{ok_or}
+use Rattle.octets.specs.Refusal.{outcome, number_of}
+use Rattle.octets.specs.declared.refusal.Refusal.{Refusal}
 use Rattle.octets.specs.Outcome.{Outcome, refused, gives, is_good, then, need, given}
 
 module _ {A : Type 0} where
@@ -48,3 +51,8 @@ then-then (gives a) f g = refl
 pub then_same : {A B : Type 0} (o : Outcome A) (f g : A → Outcome B) → ((a : A) → f a ≡ g a) → then o f ≡ then o g
 then_same (refused n) f g h = refl
 then_same (gives a) f g h = h a
+
+-- what may be missing, or the refusal
+pub or_refused : {A : Type 0} (o : Option A) (e : Refusal) → outcome (λ a. a) (ok_or o e) ≡ given o (number_of e)
+or_refused None e = refl
+or_refused (Some a) e = refl

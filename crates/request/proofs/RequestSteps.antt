@@ -25,7 +25,6 @@ use Rattle.http_head.specs.Fields.{Field, fields_of, places_of, part_at, fields_
 use Rattle.http_head.specs.Claims.{LineStands, FieldsStand}
 use Rattle.http_head.specs.declared.request_line.RequestLine.{RequestLine}
 use Rattle.http_head.specs.declared.fields.Field.{Field as Spans}
-use Rattle.http_head.proofs.FieldPlaces.{stored-places}
 use Rattle.http_head.proofs.Claims.{first-line-stands, line-is-made, lines-told, fields_told}
 use Rattle.targets.specs.Escape.{decoded}
 use Rattle.targets.specs.Target.{Target, path_of, raw_right, target_of, written, TargetRead}
@@ -163,7 +162,7 @@ module _ (head : List ℕ) (before after : List Spans) (n : ℕ) (s : Stored is_
 
   -- the places that were stored
   pub stored-are : take n after ≡ places_of head
-  stored-are = stored-places is_name head before after n s
+  stored-are = stand.stored
 
 module _ (head version : List ℕ) (before after : List Spans) where
   pub bad-fields : (e : Refusal) → Stored is_name head before after (Err e) → FieldsRead head version before after (Err e)

@@ -7,14 +7,9 @@ use mathlib.Core.List.{List, [], ◌∷◌}
 use lib.Dec.{eqb}
 use lib.ListN.{length}
 use Rattle.std.specs.List.{list_all, filter, slice_split, onto_first}
-use Rattle.octets.specs.Scan.{all_of, count}
+use Rattle.octets.specs.Scan.{count}
 use Rattle.octets.specs.Parts.{Parts, parted, before, longer}
 use Rattle.targets.specs.Target.{is_dots, no_dots, segments_right}
-
-pub all-listed : (p : ℕ → Bool) (s : List ℕ) → list_all p s ≡ all_of p s
-unfolding all_of
-all-listed p [] = refl
-all-listed p (b ∷ s) = ap (λ t. p b && t) (all-listed p s)
 
 pub counted : (x : ℕ) (s : List ℕ) → length (filter (λ b. eqb b x) s) ≡ count x s
 unfolding count

@@ -1,7 +1,8 @@
 use mathlib.Core.Path.{sym, ap, ◌∙◌}
 use Rattle.octets.specs.Outcome.{given}
 use Rattle.http_head.specs.Head.{head_outcome}
-use Rattle.http_head.proofs.Heads.{or_refused, under-limit, over-limit}
+use Rattle.octets.proofs.Outcomes.{or_refused}
+use Rattle.http_head.proofs.Heads.{under-limit, over-limit}
 use Rattle.http_head.proofs.head.head_end.Goals as goal
 
 pub returns-then-s-lt8192 : goal.returns-then-s-lt8192

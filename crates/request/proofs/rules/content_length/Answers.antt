@@ -4,7 +4,7 @@ use Rattle.octets.specs.Decimal.{number_of}
 use Rattle.octets.specs.Outcome.{given}
 use Rattle.octets.specs.Text.{bytes}
 use Rattle.http_head.specs.Fields.{fields_at}
-use Rattle.http_head.proofs.Heads.{or_refused}
+use Rattle.octets.proofs.Outcomes.{or_refused}
 use Rattle.request.specs.Named.{lowered, values_of}
 use Rattle.request.specs.Rules.{stated_outcome}
 use Rattle.request.proofs.NamedFields.{FoundIn}

@@ -3,7 +3,7 @@ use mathlib.Core.Path.{◌∙◌}
 use Rattle.std.proofs.lemmas.Iterator.{YieldsList-from_slice}
 use Rattle.std.proofs.lemmas.Iterator.Search.{all_from_yields_List}
 use Rattle.octets.proofs.Tests.{tests}
-use Rattle.targets.proofs.Iterated.{all-listed}
+use Rattle.octets.proofs.Alls.{all-listed}
 use Rattle.response.specs.Location.{is_visible}
 use Rattle.response.proofs.location.all_visible.Goals as goal
 

@@ -4,7 +4,7 @@ use Rattle.std.proofs.lemmas.Iterator.{YieldsList-from_slice}
 use Rattle.std.proofs.lemmas.Iterator.Search.{all_from_yields_List}
 use Rattle.octets.proofs.Tests.{tests}
 use Rattle.targets.specs.Target.{is_plain}
-use Rattle.targets.proofs.Iterated.{all-listed}
+use Rattle.octets.proofs.Alls.{all-listed}
 use Rattle.targets.proofs.target.all_plain.Goals as goal
 
 pub returns : goal.returns
