@@ -9,11 +9,11 @@ use Rattle.std.proofs.Common.{None, Some}
 use native.Mathlib.Omega.{arith}
 use lib.Dec.{leb, ltb, eqb}
 use lib.ListN.{length, length-append}
-use borrow.Author.Tests.{ltb-true, ltb-false, lt-ltb, le-ltb, le-leb, leb-true, eqb-true, eqb-false}
+use borrow.Author.Tests.{ltb-true, ltb-false, lt-ltb, le-ltb, le-leb, lt-leb, leb-true, eqb-true, eqb-false}
 use Rattle.octets.specs.Kinds.{is_digit, within}
 use Rattle.octets.specs.Scan.{all_of}
 use Rattle.octets.specs.Decimal.{number_from, number_of, digits_in, decimal, Says, plain, zero_before}
-use Rattle.octets.proofs.Bools.{and_left, and_right}
+use Rattle.octets.proofs.Bools.{and_left, and_right, and-false}
 
 -- what holds of the digits of n in front of s: of n below 10, and of n from those of n / 10 in front of one more digit
 pub digits :
@@ -116,6 +116,10 @@ inside a z n h l = rw (le-leb a n h, le-leb n z l)
 
 pub number-some : (s : List ℕ) → 0 < length s → length s ≤ 10 → number_of s ≡ number_from 0 s
 number-some s h l = ap (λ (t : Bool). cond t (number_from 0 s) None) (inside 1 _ (length s) h l)
+
+-- more than ten digits say no number
+pub number-long : (s : List ℕ) → 10 < length s → number_of s ≡ None
+number-long s h = rw (lt-leb (length s) 10 h, and-false)
 
 says-number : {n : ℕ} {v : List ℕ} → Says n v → (0 < length v) × (number_from 0 v ≡ Some n)
 unfolding number_from is_digit
