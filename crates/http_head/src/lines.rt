@@ -2,7 +2,7 @@
 ghost use Rattle.std.specs.Prelude.{◌≡◌, ◌+◌, ◌≤◌, ◌<◌, eqb, length, drop};
 ghost use Rattle.http_head.specs.Lines.{ends_line, line_run};
 
-use bulk::scan::find_far;
+use bulk::scan::{find_beyond, find_far};
 
 // Whether CR LF stands at i.
 fn ends_line(s: &[u8], i: usize) -> bool
@@ -19,7 +19,7 @@ pub(crate) fn is_line_end(s: &[u8], i: usize) -> bool
     s.len() <= i || ends_line(s, i)
 }
 
-// The first CR LF of s at or after from, or the length of s. Goes from CR to CR, for speed.
+// The first CR LF of s at or after from, or the length of s. Goes from CR to CR, for speed; behind one that ends no line another may be near.
 pub fn line_end(s: &[u8], from: usize) -> usize
     requires { from ≤ length s.now }
     ensures { result ≡ from + line_run (drop from s.now) }
@@ -30,7 +30,7 @@ pub fn line_end(s: &[u8], from: usize) -> usize
         if ends_line(s, i) {
             return i;
         }
-        i = find_far(s, i + 1, b'\r');
+        i = find_beyond(s, i + 1, b'\r');
     }
     i
 }

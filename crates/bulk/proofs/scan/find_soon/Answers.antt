@@ -31,4 +31,4 @@ returns c =
     let t = drop a.from a.s.now in
     let few : length (take 16 t) ≤ run (other a.b) (take 16 t) = simp length-take (omega (arith, near (goal.at.returns c).After-find-k, c.if-k-lt16.false)) in
     let pass : all_of (other a.b) (take 16 t) ≡ true = all-run (other a.b) (take 16 t) ∙ le-leb _ _ few in
-    omega (arith, c.find_far.ensures, run-chunk (other a.b) a.s.now a.from 16 (omega (arith, c.if-s-from-lt16.false)) pass)
+    omega (arith, c.find_beyond.ensures, run-chunk (other a.b) a.s.now a.from 16 (omega (arith, c.if-s-from-lt16.false)) pass)

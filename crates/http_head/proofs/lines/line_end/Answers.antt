@@ -21,7 +21,7 @@ loop-i-preserved c =
     let i = c.loop-i.i in
     let h = c.loop-i-test.true in (
       omega (arith, run-within (other 13) s (i + 1) (omega arith)),
-      omega (arith, line-more s i h (sym c.ends_line.ensures ∙ c.if-ends_line.false), line_on (other 13) refl s (i + 1) c.find_far-i-in-loop-i.result c.find_far-i-in-loop-i.ensures),
+      omega (arith, line-more s i h (sym c.ends_line.ensures ∙ c.if-ends_line.false), line_on (other 13) refl s (i + 1) c.find_beyond-i.result c.find_beyond-i.ensures),
     )
 
 pub returns : goal.returns
