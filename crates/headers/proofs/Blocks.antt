@@ -16,6 +16,11 @@ use Rattle.octets.proofs.Outcomes.{given-gives}
 use Rattle.octets.proofs.Parting.{part-ended, joined_by, parts-of}
 use Rattle.headers.specs.Block.{Header, printed, with, paired, headers_of, parsed, Proper}
 
+-- a header is its name and its value
+pub same-header : (h h' : Header) → h.name ≡ h'.name → h.value ≡ h'.value → h ≡ h'
+same-header h h' n v =
+    ap {B = Header} (λ (x : List ℕ). record { name = x; value = h.value }) n ∙ ap {B = Header} (λ (y : List ℕ). record { name = h'.name; value = y }) v
+
 pub read-printed : (hs : List Header) → All Proper hs → headers_of (printed hs) ≡ Some hs
 unfolding printed paired parted
 read-printed [] p = refl

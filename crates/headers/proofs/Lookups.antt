@@ -21,7 +21,7 @@ use Rattle.headers.specs.Setting.{first_found, setting_of}
 use Rattle.headers.specs.declared.block.HeaderPlace.{HeaderPlace}
 use Rattle.headers.specs.declared.setting.Held.TheVariants.{First, Second}
 use Rattle.headers.proofs.Blocks.{printed-read, behind-name, behind-printed}
-use Rattle.headers.proofs.Walks.{behind-header, none-behind}
+use Rattle.headers.proofs.Walks.{behind-header, none-behind, counted}
 
 -- Well formed blocks.
 
@@ -38,6 +38,12 @@ well-parsed b hs e = by (headers_of b) e
     by : (o : Option (List Header)) → given o 5 ≡ gives hs → is_some o ≡ true
     by None q = cc
     by (Some gs) q = refl
+
+-- a block whose headers are counted is well formed
+pub well-counted : (b : List ℕ) (n : ℕ) → count_of b ≡ gives n → well_formed b ≡ true
+well-counted b n e =
+    let g = counted b n e in
+    well-parsed b g.hs g.is
 
 pub well-formed-headed : WellFormedHeaded
 well-formed-headed b = (well b, λ p. well-parsed b p.hs p.is)

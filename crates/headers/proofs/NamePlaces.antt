@@ -186,6 +186,10 @@ found_in (h ∷ hs) b i l e =
     let o = own_name h hs b i l e in
     record { inside = omega arith & r.inside; are = rw (o, r.are) }
 
+-- of all headers of a block
+pub found : (b : List ℕ) (hs : List Header) → parsed b ≡ gives hs → Found b 0 hs
+found b hs e = found_in hs b 0 (omega arith) (sym (printed-read b hs (given-gives (headers_of b) 5 hs e)).bytes)
+
 -- what is known of a block's names by their places
 pub record Known (b : List ℕ) (ps : List Span) : Type 0 where
   pub inside : AllInside b ps
@@ -206,7 +210,7 @@ named b ps p =
 pub known : (b : List ℕ) (ps : List Span) → NamesIn b ps → Known b ps
 known b ps p =
     let g = named b ps p in
-    let f = found_in g.hs b 0 (omega arith) (sym (printed-read b g.hs (given-gives (headers_of b) 5 g.hs g.is)).bytes) in
+    let f = found b g.hs g.is in
     record {
       inside = rw g.places at f.inside;
       answer = rw g.is (ap (λ (ns : List (List ℕ)). gives (different ns)) (sym f.are ∙ ap (parts b) g.places));

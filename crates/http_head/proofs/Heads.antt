@@ -115,6 +115,10 @@ module _ (s : List ℕ) where
   pub pass-none : (i : ℕ) → i ≤ length s → Passed s i i
   pass-none i h = record { onward = omega arith; inside = h; same = refl }
 
+  -- one way after another
+  pub pass-then : (i j k : ℕ) → Passed s i j → Passed s j k → Passed s i k
+  pass-then i j k p q = record { onward = omega (arith, p.onward, q.onward); inside = q.inside; same = p.same ∙ q.same }
+
   -- a place behind which LF and CR do not stand next to each other
   pub turn_on :
       (i k : ℕ) (hit : Bool) → i + k < length s → (hit ≡ false → Passed s i (i + k))
@@ -128,6 +132,14 @@ module _ (s : List ℕ) where
       ∙ middle (eqb (get_or s (i + k) 0) 13) (eqb (get_or s (i + k + 1) 0) 10) (eqb (get_or s (i + k + 2) 0) 13)
       (eqb (get_or s (i + k + 3) 0) 10) o.1 in
       rw q at (one_on s i (i + k) (i + k + 1) (p o.0) h n (pass-none (i + k + 1) (omega arith)))
+
+  -- two chunks of sixteen
+  pub pass-chunks :
+      (i : ℕ) (a b : Bool) → (a ≡ false → Passed s i (i + 16)) → (b ≡ false → Passed s (i + 16) (i + 16 + 16)) → a || b ≡ false → Passed s i (i + 32)
+  pass-chunks i a b p q e =
+      let l : i + 16 + 16 ≡ i + 32 = omega arith in
+      let o = or_parts a b e in
+      rw l at (pass-then i (i + 16) (i + 16 + 16) (p o.0) (q o.1))
 
 -- a head lies in s and in the limit, and has its last four bytes
 some_end : (i : ℕ) (s : List ℕ) (n : ℕ) → end_from i s ≡ Some n → (i + 4 ≤ n) × (n ≤ i + length s)

@@ -1,13 +1,13 @@
 -- Laws of lines: where they end, byte by byte and by runs of bytes that are not CR, and the lines by the first place of CR LF.
 -- Assumes nothing.
 use mathlib.Core.Path.{◌≡◌, refl, sym, ap, ◌∙◌}
-use mathlib.Core.Bool.{Bool, true, false, cond, ◌&&◌, false≢true}
+use mathlib.Core.Bool.{Bool, true, false, cond, ◌&&◌, and-false, false≢true}
 use mathlib.Core.List.{List, [], ◌∷◌}
-use Prim.Native.Nat.{ℕ, zero, suc, ◌+◌, ◌≤◌, ◌<◌}
+use Prim.Native.Nat.{ℕ, zero, suc, ◌+◌, ◌-◌, ◌≤◌, ◌<◌}
 use native.Mathlib.Nat.{add-zero}
 use native.Mathlib.Omega.{arith}
 use lib.Dec.{eqb}
-use lib.ListN.{length, take, drop, get_or, length-drop, drop_of_length-le}
+use lib.ListN.{length, take, drop, get_or, length-drop, drop_of_length-le, get_or-eq_default}
 use lib.Seq.{get_or-drop, drop-drop}
 use borrow.Author.Tests.{ne_eqb, eqb-true}
 use Rattle.octets.specs.Parts.{Parts, before, longer}
@@ -21,6 +21,12 @@ module _ (s : List ℕ) (i : ℕ) where
   ends_at =
       let e : get_or (drop i s) 0 0 ≡ get_or s i 0 = get_or-drop i s 0 0 ∙ ap (λ (n : ℕ). get_or s n 0) (add-zero i) in
       rw (e, get_or-drop i s 1 0)
+
+  -- no byte is left for the LF
+  pub ends-cut : length s - i < 2 → ends_line (drop i s) ≡ false
+  ends-cut h =
+      let h' : length s ≤ i + 1 = omega arith in
+      ends_at ∙ simp (get_or-eq_default s 0 h', and-false)
 
   here : i < length s → line_run (drop i s) ≡ cond (ends_line (drop i s)) 0 (suc (line_run (drop (i + 1) s)))
   unfolding line_run
@@ -129,6 +135,18 @@ cut-found (b ∷ s) h = by (ends_line (b ∷ s)) h (cut-found s)
     by false h ih =
         let e : suc (line_run s + 2) ≡ suc (line_run s) + 2 = omega arith in
         ap (longer b) (ih (omega arith)) ∙ ap (λ (k : ℕ). before (b ∷ take (line_run s) s) (lines_of (drop k (b ∷ s)))) e
+
+-- .. and none stands in s
+pub cut-none : (s : List ℕ) → length s ≤ line_run s → lines_of s ≡ record { first = s; others = [] }
+unfolding line_run lines_from
+cut-none [] h = refl
+cut-none (b ∷ s) h = by (ends_line (b ∷ s)) h (cut-none s)
+  where
+    by :
+        (t : Bool) → suc (length s) ≤ cond t 0 (suc (line_run s)) → (length s ≤ line_run s → lines_of s ≡ record { first = s; others = [] })
+        → cond t (before [] (lines_from 1 s)) (longer b (lines_of s)) ≡ record { first = b ∷ s; others = [] }
+    by true h ih = absurd (omega arith)
+    by false h ih = ap (longer b) (ih (omega arith))
 
 -- the first line, and the others, which are those from the first line's end on
 pub first-line : (s : List ℕ) → (lines_of s).first ≡ take (line_run s) s

@@ -35,6 +35,15 @@ pub no_nul : (s : List ℕ) → has_no_nul s ≡ true → NoNul s
 no_nul [] t = no_more
 no_nul (b ∷ s) t = eqb-false b 0 (not-true _ (and_left _ (has_no_nul s) t)) & (no_nul s (and_right (not (eqb b 0)) _ t))
 
+-- parts before the first x
+pub cut-first : (x : ℕ) (a b s t : List ℕ) → Without x a → Without x b → a ++ x ∷ s ≡ b ++ x ∷ t → (a ≡ b) × (s ≡ t)
+cut-first x [] [] s t p q e = (refl, cc)
+cut-first x [] (y ∷ b) s t p (n & q) e = absurd (n (cc))
+cut-first x (y ∷ a) [] s t (n & p) q e = absurd (n (cc))
+cut-first x (y ∷ a) (z ∷ b) s t (n & p) (m & q) e =
+    let r = cut-first x a b s t p q (cc) in
+    let h : y ≡ z = cc in (cc r.0, r.1)
+
 -- parts of equal length
 pub cut-length : {A : Type 0} (a b s t : List A) → length a ≡ length b → a ++ s ≡ b ++ t → (a ≡ b) × (s ≡ t)
 cut-length a b s t n e =

@@ -1,16 +1,16 @@
 -- Laws of chunks: n bytes from a place on that a loop tests one after the other, with no way out before the last.
 -- Assumes nothing.
 use mathlib.Core.Path.{◌≡◌, refl, sym, ap, ◌∙◌}
-use mathlib.Core.Bool.{Bool, true, false, cond, not, ◌&&◌, ◌||◌, beq}
+use mathlib.Core.Bool.{Bool, true, false, cond, not, not-not, ◌&&◌, ◌||◌, beq}
 use mathlib.Core.List.{List, [], ◌∷◌}
 use Prim.Native.Nat.{ℕ, zero, suc, ◌+◌, ◌-◌, ◌≤◌, ◌<◌}
 use native.Mathlib.Omega.{arith}
-use lib.Dec.{eqb, leb}
+use lib.Dec.{eqb, leb, ltb}
 use lib.ListN.{length, take, drop, get_or, length-drop, drop_of_length-le}
 use lib.Seq.{drop-drop}
 use Rattle.octets.specs.Compare.{same_bytes}
 use Rattle.octets.specs.Kinds.{is_value}
-use Rattle.octets.specs.Scan.{run, all_of}
+use Rattle.octets.specs.Scan.{run, all_of, other}
 use Rattle.octets.proofs.Bools.{and_left, and_right}
 use Rattle.octets.proofs.ByteRules.{all_below, below}
 use Rattle.octets.proofs.Lists.{next, part-first}
@@ -22,6 +22,10 @@ and-and false b c = refl
 and-true : (a : Bool) → a && true ≡ a
 and-true true = refl
 and-true false = refl
+
+not-and : (a b : Bool) → not (a && b) ≡ not a || not b
+not-and true b = refl
+not-and false b = refl
 
 module _ (s : List ℕ) (i n : ℕ) where
   -- the bytes of the chunk from its place k on
@@ -66,6 +70,29 @@ module _ (p : ℕ → Bool) (s : List ℕ) (i n : ℕ) where
   pub all-end : (k : ℕ) (good : Bool) {whole : Bool} → n ≤ k → whole ≡ good && all_of p (left s i n k) → good ≡ whole
   unfolding all_of
   all-end k good {whole} h e = sym (e ∙ ap (λ (t : List ℕ). good && all_of p t) (left-none s i n k h) ∙ and-true good)
+
+  -- the same of whether one of the bytes fails it
+  pub any-start : not (all_of p (take n (drop i s))) ≡ false || not (all_of p (left s i n 0))
+  any-start = ap not all-start
+
+  pub any-more :
+      (k : ℕ) (bad : Bool) {whole r : Bool} → k < n → i + n ≤ length s → whole ≡ bad || not (all_of p (left s i n k))
+      → r ≡ not (p (get_or s (i + k) 0)) → whole ≡ (bad || r) || not (all_of p (left s i n (k + 1)))
+  any-more k true h l e q = e
+  any-more k false h l e q =
+      let rest = all_of p (left s i n (k + 1)) in
+      let f : all_of p (left s i n k) ≡ p (get_or s (i + k) 0) && rest = all-more k true h l refl refl in
+      e ∙ ap not f ∙ not-and (p (get_or s (i + k) 0)) rest ∙ ap (λ (t : Bool). t || not rest) (sym q)
+
+  pub any-end : (k : ℕ) (bad : Bool) {whole : Bool} → n ≤ k → whole ≡ bad || not (all_of p (left s i n k)) → bad ≡ whole
+  any-end k true h e = sym e
+  any-end k false h e =
+      let f : true ≡ all_of p (left s i n k) = all-end k true h refl in
+      ap not f ∙ sym e
+
+-- a byte that is x fails the test for another byte
+pub other-not : (x b : ℕ) → eqb b x ≡ not (other x b)
+other-not x b = sym (not-not (eqb b x))
 
 -- whether the bytes are those of a list t of n bytes
 
@@ -132,3 +159,8 @@ same_at f g t b h = same_test (f b) (g b) (below (λ b. beq (f b) (g b)) 256 t b
 pub by_value : (b : ℕ) → b < 256 → (leb 32 b || eqb b 9) && not (eqb b 127) ≡ is_value b
 unfolding is_value
 by_value = same_at (λ b. (leb 32 b || eqb b 9) && not (eqb b 127)) is_value refl
+
+-- .. and the bytes that are no value's
+pub no_value : (b : ℕ) → b < 256 → (ltb b 32 && not (eqb b 9)) || eqb b 127 ≡ not (is_value b)
+unfolding is_value
+no_value = same_at (λ b. (ltb b 32 && not (eqb b 9)) || eqb b 127) (λ b. not (is_value b)) refl

@@ -1,14 +1,15 @@
 -- Laws of writing over a buffer: byte after byte, piece after piece, and from the last byte down.
 -- Assumes nothing.
 use mathlib.Core.Path.{◌≡◌, refl, sym, ap, ◌∙◌}
-use mathlib.Core.List.{List, [], ◌∷◌, ◌++◌, append_assoc}
+use mathlib.Core.List.{List, [], ◌∷◌, ◌++◌, append_assoc, append-nil}
 use Prim.Native.Nat.{ℕ, suc, ◌+◌, ◌-◌, ◌≤◌, ◌<◌}
 use native.Mathlib.Nat.{add_assoc, add-zero}
 use native.Mathlib.Numerals.{add-one}
 use native.Mathlib.Omega.{arith}
-use lib.ListN.{length, take, drop, set, get_or, length-append, length-take, length-drop, take-append-drop}
+use lib.ListN.{length, take, drop, set, get_or, length-append, length-take, length-drop, length-set, take-append-drop, drop_of_length-le}
 use lib.Seq.{take_at, drop_at, drop-drop, paste, take-add, take-length, take-suc, get_or-drop, get_or-append-add, set_split, take-set-le}
 use Rattle.octets.specs.Copy.{over, Wrote}
+use Rattle.octets.proofs.Lists.{from}
 
 -- a loop that stores byte after byte: `paste d at s i` is d with the first i bytes of s over it
 pub whole : (d : List ℕ) (at : ℕ) (s : List ℕ) → paste d at s (length s) ≡ over d at s
@@ -96,7 +97,7 @@ and_then {d} {at} {p} w room q d'' r' e =
       holds = e.holds ∙ rw (w.holds, w.ends) (over-over d at p room q);
     }
 
--- a list written chunk after chunk: its first i bytes are written, then n more
+-- a list written chunk after chunk: its first i bytes are written, then n more, or all the rest
 module _ {d : List ℕ} {at : ℕ} (s : List ℕ) (i : ℕ) {d' : List ℕ} (w : Wrote d at (take i s) d' (at + i)) (room : at + length s ≤ length d) (d'' : List ℕ) (r : ℕ) where
   pub chunk-then : (n : ℕ) → i + n ≤ length s → Wrote d' (at + i) (take n (drop i s)) d'' r → Wrote d at (take (i + n) s) d'' (at + (i + n))
   chunk-then n h e =
@@ -105,6 +106,18 @@ module _ {d : List ℕ} {at : ℕ} (s : List ℕ) (i : ℕ) {d' : List ℕ} (w :
         ends = simp length-take (omega arith);
         holds = rw (take-add i n s) (and_then w (omega (arith, l)) (take n (drop i s)) d'' r e).holds;
       }
+
+  pub rest_then : i ≤ length s → Wrote d' (at + i) (take (length s - i) (drop i s)) d'' r → Wrote d at s d'' r
+  rest_then h e =
+      let l : length (take i s) ≡ i = simp length-take (omega arith) in
+      rw (from s i, take-append-drop i s) at (and_then w (omega (arith, l)) (take (length s - i) (drop i s)) d'' r e)
+
+-- a list written over the whole of a buffer
+pub over-all : (d p : List ℕ) → length p ≡ length d → over d 0 p ≡ p
+unfolding over
+over-all d p h =
+    let n : length d ≤ 0 + length p = omega arith in
+    rw (drop_of_length-le d n) (append-nil p)
 
 -- a list written to the front of a buffer is the front of that
 pub front-is : (d p : List ℕ) {d' : List ℕ} {r : ℕ} → length p ≤ length d → Wrote d 0 p d' r → take r d' ≡ p
@@ -145,6 +158,17 @@ front-stays d n h =
 -- the first byte of a piece, and then the rest
 pub first_then : (d : List ℕ) (at b : ℕ) (p : List ℕ) → at < length d → over d at (b ∷ p) ≡ over (set d at b) (at + 1) p
 first_then d at b p h = sym (rw (one_byte d at b h) (over-over d at (b ∷ []) (omega arith) p))
+
+-- the first two, and then the rest
+pub two-stored :
+    (d : List ℕ) (at x y : ℕ) (rest : List ℕ) → at + 2 + length rest ≤ length d
+    → over (set (set d at x) (at + 1) y) (at + 2) rest ≡ over d at (x ∷ (y ∷ rest))
+two-stored d at x y rest room =
+    let e : at + 1 + 1 ≡ at + 2 = omega arith in
+    let one : over d at (x ∷ (y ∷ rest)) ≡ over (set d at x) (at + 1) (y ∷ rest) = first_then d at x (y ∷ rest) (omega arith) in
+    let two : over (set d at x) (at + 1) (y ∷ rest) ≡ over (set (set d at x) (at + 1) y) (at + 1 + 1) rest =
+    first_then (set d at x) (at + 1) y rest (simp length-set (omega arith)) in
+    sym (one ∙ two ∙ ap (λ (k : ℕ). over (set (set d at x) (at + 1) y) k rest) e)
 
 -- what stands behind a piece is as it was
 pub over-rest :

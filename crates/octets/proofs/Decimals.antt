@@ -117,7 +117,10 @@ inside a z n h l = rw (le-leb a n h, le-leb n z l)
 pub number-some : (s : List ℕ) → 0 < length s → length s ≤ 10 → number_of s ≡ number_from 0 s
 number-some s h l = ap (λ (t : Bool). cond t (number_from 0 s) None) (inside 1 _ (length s) h l)
 
--- more than ten digits say no number
+-- none say no number, and so do more than ten
+pub number-empty : (s : List ℕ) → length s ≡ 0 → number_of s ≡ None
+number-empty s h = rw h
+
 pub number-long : (s : List ℕ) → 10 < length s → number_of s ≡ None
 number-long s h = rw (lt-leb (length s) 10 h, and-false)
 

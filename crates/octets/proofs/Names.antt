@@ -9,7 +9,7 @@ use native.Mathlib.Omega.{arith}
 use borrow.Author.Tests.{not-true}
 use Rattle.octets.specs.Compare.{same_bytes}
 use Rattle.octets.specs.Lists.{All, no_more, ◌&◌, is_in, different, Different, no_name, one_more}
-use Rattle.octets.proofs.Bools.{and_left, and_right}
+use Rattle.octets.proofs.Bools.{and_left, and_right, or-false}
 use Rattle.octets.proofs.Compares.{same_refl, same_false}
 
 pub not_in : (n : List ℕ) (ns : List (List ℕ)) → All (λ m. n ≡ m → ⊥) ns → is_in n ns ≡ false
@@ -54,6 +54,16 @@ different-append [] b e p d = d
 different-append (n ∷ a) b e (q & p) d =
     rw (is-in-append n a b (not-true _ (and_left _ (different a) e)) q, different-append a b (and_right (not (is_in n a)) _ e) p d)
 
+-- a name of lists that are put together is one of either
+pub in_either : (n : List ℕ) (a b : List (List ℕ)) → is_in n (a ++ b) ≡ is_in n a || is_in n b
+unfolding is_in
+in_either n [] b = refl
+in_either n (m ∷ a) b = rw (in_either n a b) (by (same_bytes n m))
+  where
+    by : (t : Bool) → t || (is_in n a || is_in n b) ≡ (t || is_in n a) || is_in n b
+    by true = refl
+    by false = refl
+
 -- the first of a list, or one of the others
 pub in_first : (n m : List ℕ) (ms : List (List ℕ)) → same_bytes n m ≡ true → is_in n (m ∷ ms) ≡ true
 unfolding is_in
@@ -62,3 +72,8 @@ in_first n m ms e = rw e
 pub in_others : (n m : List ℕ) (ms : List (List ℕ)) → same_bytes n m ≡ false → is_in n (m ∷ ms) ≡ is_in n ms
 unfolding is_in
 in_others n m ms e = rw e
+
+-- the only one of a list
+pub in_one : (n m : List ℕ) → is_in n (m ∷ []) ≡ same_bytes n m
+unfolding is_in
+in_one n m = or-false (same_bytes n m)

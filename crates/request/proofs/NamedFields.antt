@@ -72,6 +72,23 @@ module _ (head : List ℕ) where
     pub found_in : (ps : List Spans) → AllInside head ps → FoundIn head (values_of (map lower_of name) (lowered (fields_at head ps))) (found_of name head ps)
     found_in ps i = found-behind ps i (record { count = 0; first = None }) [] (record { count_is = refl; first_is = refl; inside = tt })
 
+    -- one field more is one more of the name at most
+    with-few : (p : Spans) (seen : Found) → (with_field name head p seen).count ≤ seen.count + 1
+    with-few p seen = by (same_letters (field_in head p).name name)
+      where
+        by : (t : Bool) → (cond t (record { count = seen.count + 1; first = option_or seen.first (Some p.value) }) seen).count ≤ seen.count + 1
+        by true = omega arith
+        by false = omega arith
+
+    few-behind : (ps : List Spans) (seen : Found) → (found_from name head seen ps).count ≤ seen.count + length ps
+    unfolding found_from
+    few-behind [] seen = omega arith
+    few-behind (p ∷ ps) seen = omega (arith, few-behind ps (with_field name head p seen), with-few p seen)
+
+    -- they are no more than the fields
+    pub found-few : (ps : List Spans) → (found_of name head ps).count ≤ length ps
+    found-few ps = omega (arith, few-behind ps (record { count = 0; first = None }))
+
     -- one field after the other
     module _ (seen : Found) (ps : List Spans) (k : ℕ) where
       pub found-next :

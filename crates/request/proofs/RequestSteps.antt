@@ -1,6 +1,6 @@
 -- Laws of the steps in which a request's head is read.
 -- Assumes nothing.
-use Prim.Native.Nat.{ℕ, ◌+◌, ◌-◌, ◌≤◌}
+use Prim.Native.Nat.{ℕ, min, ◌+◌, ◌-◌, ◌≤◌}
 use Prim.{absurd}
 use mathlib.Core.Path.{◌≡◌, refl, sym, ap, ◌∙◌}
 use mathlib.Core.Bool.{Bool, true, false, cond, ◌||◌, false≢true}
@@ -62,6 +62,10 @@ start_with head o =
 
 abbrev start_from : List ℕ → FirstLine → Outcome Target → Outcome LinePlaces
 start_from head first o = then (then o (λ target. gives (record { first = first; path = target.path }))) (λ s. gives (line_placed head s))
+
+-- a buffer with room for the head has room for a part of it
+pub part_room : (head path : List ℕ) (t n : ℕ) → min (length head) 4096 ≤ length path → min (length (take n (drop t head))) 4096 ≤ length path
+part_room head path t n h = simp (length-take, length-drop) (omega arith)
 
 -- what is written to the buffer for an accepted target
 written-path : (t : List ℕ) (x : Target) → target_of t ≡ gives x → written t ≡ decoded (path_of t)
@@ -142,6 +146,12 @@ module _ (head : List ℕ) (end : ℕ) (at : end ≡ 0 + line_run (drop 0 head))
               answer = placed (target_of (part_at head l.target)) w.answer ∙ ap (start_with head) (sym line-is);
               buffer = w.buffer ∙ ap (over before 0) (written-path (part_at head l.target) x.it x.first);
             }
+
+-- the line that was read ends where the first line does
+pub ends_at : (head before after : List ℕ) (line : LinePlaces) → LineRead head before after (Ok line) → line.end ≡ line_run head
+ends_at head before after line l =
+    let s = then-gives (start_of head) (λ s. gives (line_placed head s)) line (sym l.answer) in
+    ap (λ (y : LinePlaces). y.end) (sym (gives-once _ line s.next))
 
 -- THE FIELDS
 

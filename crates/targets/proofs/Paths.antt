@@ -30,6 +30,9 @@ module _ (p d d' : List ℕ) (r : ℕ) (w : Wrote d 0 (decoded p) d' r) where
   front_length : r ≡ length (decoded p)
   front_length = w.ends ∙ zero-add (length (decoded p))
 
+  pub front-short : r ≤ length p
+  front-short = omega (arith, front_length, decoded-le 0 p)
+
   module _ (room : length p ≤ length d) where
     decoded-room : 0 + length (decoded p) ≤ length d
     decoded-room = omega (arith, decoded-le 0 p)

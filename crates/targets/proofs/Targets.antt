@@ -2,12 +2,12 @@
 -- Assumes nothing.
 use Prim.Native.Nat.{ℕ, min, ◌+◌, ◌≤◌, ◌<◌}
 use mathlib.Core.Path.{◌≡◌, refl, sym, ap, ◌∙◌}
-use mathlib.Core.Bool.{Bool, true, false, cond, ◌&&◌}
+use mathlib.Core.Bool.{Bool, true, false, cond, not, ◌&&◌, and-true}
 use mathlib.Core.List.{List}
 use native.Mathlib.Nat.{zero-add}
 use native.Mathlib.Omega.{arith}
 use lib.Dec.{eqb, leb}
-use lib.ListN.{length, take, get_or}
+use lib.ListN.{length, take, drop, get_or}
 use lib.Seq.{length-take-le}
 use Rattle.std.proofs.Common.{Result, Ok, Err}
 use borrow.Author.Tests.{eq-eqb, ne_eqb, le-leb, lt-leb, eqb-true, leb-true}
@@ -18,13 +18,29 @@ use Rattle.octets.specs.declared.refusal.Refusal.{Refusal}
 use Rattle.octets.specs.declared.refusal.Refusal.TheVariants as Because
 use Rattle.octets.proofs.Bools.{and_left, and_right, and-false}
 use Rattle.octets.proofs.Scans.{run-le, all_take, all-same-run}
+use Rattle.octets.proofs.Parting.{part-found, part_none}
 use Rattle.octets.proofs.Copies.{over-nil}
 use Rattle.targets.specs.Escape.{escapes_right, decoded}
-use Rattle.targets.specs.Target.{path_of, raw_right, decoded_right, target_of, written, TargetRead, raw_of, PathRight, PathRead}
+use Rattle.targets.specs.Target.{path_of, raw_right, is_dots, no_dots, segments_right, decoded_right, target_of, written, TargetRead, raw_of, PathRight, PathRead}
 use Rattle.targets.specs.Claims.{RawSays}
 use Rattle.targets.specs.declared.target.Raw.{Raw}
 use Rattle.targets.specs.declared.target.TargetPlace.{TargetPlace}
 use Rattle.targets.proofs.Escapes.{path-escapes}
+
+-- Segments, one at a time.
+
+-- the first one, and those behind the first slash, whose place is n
+pub segments-next :
+    (q : List ℕ) (n : ℕ) → n ≡ run (other 47) q → n < length q → segments_right q ≡ not (is_dots (take n q)) && segments_right (drop (n + 1) q)
+unfolding segments_right no_dots
+segments-next q n e h =
+    let w : run (other 47) q < length q = omega arith in
+    rw (e, part-found 47 q w)
+
+-- the last one
+pub segments-last : (q : List ℕ) → length q ≤ run (other 47) q → segments_right q ≡ not (is_dots q)
+unfolding segments_right no_dots
+segments-last q h = rw (part_none 47 q h) (and-true (not (is_dots q)))
 
 -- The path.
 
