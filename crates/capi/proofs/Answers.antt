@@ -14,6 +14,11 @@ use Rattle.capi.specs.Answer.{fitting, returned, untold}
 abbrev pub due_number : {B : Type 0} → Result B Refusal → ℕ
 due_number r = number_of (unwrap_or (result_err r) NoRoom)
 
+-- a call refuses with what the answer that tells of it refuses with
+pub refused-with : {A B : Type 0} (g : A → B) (o : Outcome A) (k : ℕ) → refused k ≡ then o (λ a. gives (g a)) → o ≡ refused k
+refused-with g (refused m) k e = cc
+refused-with g (gives a) k e = cc
+
 -- o is what is to be written whatever the room, b its bytes
 module _ {A : Type 0} (b : A → List ℕ) where
   -- 21 for want of room in the output, last of the call's refusals
@@ -32,6 +37,15 @@ module _ {A : Type 0} (b : A → List ℕ) where
       by : (t : Bool) → refused (number_of e) ≡ then (need t 21 (gives a)) (λ a. gives (g a)) → number_of e ≡ 21
       by true h = cc
       by false h = cc
+
+  -- .. whatever the number
+  pub untold-refused : (o : Outcome A) (room k : ℕ) → room_last o room ≡ refused k → k ≡ returned (untold o)
+  untold-refused (refused m) room k e = cc
+  untold-refused (gives a) room k e = by (leb (length (b a)) room) e
+    where
+      by : (t : Bool) → need t 21 (gives a) ≡ refused k → k ≡ 21
+      by true e = cc
+      by false e = cc
 
   -- so whatever room the output has
   pub untold-all :

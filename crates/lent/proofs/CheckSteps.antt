@@ -155,6 +155,16 @@ done room facts site mounts (Ok p) f n q e = rw e f.answer.1
 done room facts site mounts (Err Breach) f n q e = rw e f.answer.1
 done room facts site mounts (Err Full) f n q e = absurd (n refl)
 
+-- .. and the other way round, where both blocks were stored
+module _ (room : ℕ) (facts site mounts : List ℕ) (fn : Names) (ff : BlockFound 1024 room facts (Ok fn)) (sn : Names) (fs : BlockFound 1024 room site (Ok sn)) where
+  no-list-full : lacks_either room facts site ≡ false
+  no-list-full = by-site room facts site mounts fn ff ∙ (blocks-told.good 1024 room site _ fs.answer).0
+
+  pub all-tried : (r : Result SettingPlaces Unfit) → (r ≡ Err Full → ⊥) → LentFound facts site mounts (refusal r) → LentTried room facts site mounts r
+  all-tried (Ok p) n l = record { answer = (no-list-full, l) }
+  all-tried (Err Breach) n l = record { answer = (no-list-full, l) }
+  all-tried (Err Full) n l = absurd (n refl)
+
 -- Which number the answers have.
 
 filled-refuses : (v : Option (List ℕ)) → Refuses (20 ∷ []) (filled v)

@@ -1,6 +1,6 @@
 -- Laws of the mount that wins: what a path that is a name says, and what one that is none says.
 -- Assumes nothing.
-use Prim.Native.Nat.{ℕ, zero, suc, ◌≤◌, ◌<◌}
+use Prim.Native.Nat.{ℕ, zero, suc, ◌-◌, ◌≤◌, ◌<◌}
 use Prim.{absurd}
 use mathlib.Core.Path.{◌≡◌, refl, sym, ap, ◌∙◌}
 use mathlib.Core.Bool.{Bool, true, false, false≢true, cond, ◌&&◌, ◌||◌}
@@ -10,6 +10,7 @@ use native.Mathlib.Nat.{le_refl, le_trans}
 use native.Mathlib.Omega.{arith}
 use lib.Dec.{eqb, leb}
 use lib.ListN.{length, take, drop, get_or, length-append}
+use lib.Seq.{take-suc}
 use borrow.Author.Tests.{eq-eqb, ne_eqb, eqb-true, eqb-false, le-leb, lt-leb, leb-true, leb-false}
 use Rattle.octets.specs.Compare.{same_bytes}
 use Rattle.octets.specs.Lists.{All, no_more, ◌&◌}
@@ -224,6 +225,28 @@ unfolding shortened
 last-slash [] k l e h = absurd (omega arith)
 last-slash (b ∷ s) zero l e h = rw (no-slash s (λ k m. h (suc k) (omega arith) (omega arith)), eq-eqb b 47 e)
 last-slash (b ∷ s) (suc k) l e h = rw (last-slash s k (omega arith) e (λ j m n. h (suc j) (omega arith) (omega arith)))
+
+last_byte : (s : List ℕ) (b : ℕ) → shortened (s ++ b ∷ []) ≡ cond (eqb b 47) (Some s) (shortened s)
+unfolding shortened
+last_byte [] b = refl
+last_byte (a ∷ s) b = ap (before_slash a) (last_byte s b) ∙ by (eqb b 47)
+  where
+    by : (t : Bool) → before_slash a (cond t (Some s) (shortened s)) ≡ cond t (Some (a ∷ s)) (before_slash a (shortened s))
+    by true = refl
+    by false = refl
+
+-- .. going back byte by byte, from n bytes
+module _ (s : List ℕ) (n : ℕ) (p : 0 < n) (h : n ≤ length s) where
+  back_one : shortened (take n s) ≡ cond (eqb (get_or s (n - 1) 0) 47) (Some (take (n - 1) s)) (shortened (take (n - 1) s))
+  back_one =
+      let e : n ≡ suc (n - 1) = omega arith in
+      ap (λ (k : ℕ). shortened (take k s)) e ∙ rw (take-suc s (n - 1) 0 (omega arith)) (last_byte (take (n - 1) s) (get_or s (n - 1) 0))
+
+  pub at-slash : get_or s (n - 1) 0 ≡ 47 → shortened (take n s) ≡ Some (take (n - 1) s)
+  at-slash e = back_one ∙ rw (eq-eqb (get_or s (n - 1) 0) 47 e)
+
+  pub no_slash : (get_or s (n - 1) 0 ≡ 47 → ⊥) → shortened (take n s) ≡ shortened (take (n - 1) s)
+  no_slash e = back_one ∙ rw (ne_eqb (get_or s (n - 1) 0) 47 e)
 
 -- a slash less
 

@@ -29,7 +29,15 @@ module _ (line : List ℕ) (f : Field) (e : field_of is_token line ≡ Some f) w
   pub value_inside : value_start line + length f.value ≤ length line
   value_inside = omega (arith, stands.value_inside, value-length)
 
--- the reader says where the name and the value of the line's field stand
+-- the reader says that the line has no field
+pub unseen : (line : List ℕ) (at : ℕ) (seen : Seen) → None ≡ spans_of is_token line → None ≡ seen_with seen (field_in (record { start = at; bytes = line }))
+unseen line at seen = by (field_of is_token line) refl
+  where
+    by : (o : Option Field) → field_of is_token line ≡ o → None ≡ spans_if o line → None ≡ seen_with seen (field_in (record { start = at; bytes = line }))
+    by None p q = rw p
+    by (Some f) p q = cc
+
+-- .. or where the name and the value of its field stand
 pub record Told (line : List ℕ) (x : Spans) : Type 0 where
   pub field : Field
   pub there : field_of is_token line ≡ Some field

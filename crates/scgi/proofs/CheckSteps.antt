@@ -10,6 +10,7 @@ use Rattle.std.specs.Result.{IsOk}
 use native.Mathlib.Nat.{sub-zero}
 use native.Mathlib.Omega.{arith}
 use Rattle.std.proofs.lemmas.List.{nil_from_length}
+use lib.Dec.{leb}
 use lib.ListN.{length, take, drop}
 use borrow.Author.Tests.{le-leb, lt-leb}
 use Rattle.octets.specs.Text.{bytes}
@@ -60,16 +61,20 @@ module _ (b : List ℕ) (w : well_formed b ≡ true) where
       let g = then-gives (parsed (drop (v + 1) b)) (λ hs. gives (header_in b 0 n v ∷ hs)) p.hs (h.answer ∙ p.is) in
       ap (λ (o : Outcome (List Header)). then o stated_by) (p.is ∙ sym g.next) ∙ rw (sub-zero n)
 
+  -- a well formed block is not refused at its first header
+  pub never-unheaded : {A : Type 0} {o : A} {e : A} (n : ℕ) → HeaderFound b 0 (refused n) → o ≡ e
+  never-unheaded n h =
+      let p = headed b w in
+      let e : refused n ≡ gives p.hs = h.answer ∙ p.is in
+      cc
+
   -- a first header is found where there are bytes
   pub first-found : (r : Result HeaderPlace Refusal) → header_outcome r ≡ header_ends b 0 → 0 < length b → HeaderFound b 0 (header_outcome r)
   first-found r e h = rw e (header-parses b 0 h)
 
   pub first-is : (r : Result HeaderPlace Refusal) → HeaderFound b 0 (header_outcome r) → IsOk r
   first-is (Ok p) h = refl
-  first-is (Err n) h =
-      let p = headed b w in
-      let e : refused (number_of_refusal n) ≡ gives p.hs = h.answer ∙ p.is in
-      cc
+  first-is (Err n) h = never-unheaded (number_of_refusal n) h
 
 -- The header SCGI.
 
@@ -109,6 +114,11 @@ differ b e =
     record { hs = g.it; is = g.first; names_differ = test-different (names g.it) (cc) }
 
 module _ (b : List ℕ) (d : then (parsed b) (λ hs. gives (different (names hs))) ≡ gives true) where
+  pub differ-well : well_formed b ≡ true
+  differ-well =
+      let p = differ b d in
+      (well-formed-headed b).1 (record { hs = p.hs; is = p.is })
+
   -- what the place of SCGI's value says
   pub scgi-at : (o : Option Span) → lookup_of b (bytes "SCGI") ≡ gives o → has_scgi b ≡ gives (is_value (part_option b o) (bytes "1"))
   scgi-at o e =
@@ -161,3 +171,41 @@ module _ (b : List ℕ) (n : ℕ) (c : count_of b ≡ gives n) where
 
     pub other-names : then (parsed b) (λ hs. gives (different (names hs))) ≡ gives true → check_block b ≡ rest_of b
     other-names = by_names true
+
+-- What is asked after the names.
+
+module _ (b : List ℕ) (d : then (parsed b) (λ hs. gives (different (names hs))) ≡ gives true) where
+  abbrev hs : List Header
+  hs = (differ b d).hs
+
+  p : parsed b ≡ gives hs
+  p = (differ b d).is
+
+  left : rest_of b ≡ then (stated_by hs) (λ n. need (leb n 1048576) 9 (need (has scgi1 hs) 10 (gives n)))
+  left = rw p
+
+  pub unstated : (k : ℕ) → stated_in b ≡ refused k → rest_of b ≡ refused k
+  unstated k e =
+      let q : stated_by hs ≡ refused k = rw p at e in
+      left ∙ rw q
+
+  module _ (len : ℕ) (e : stated_in b ≡ gives len) where
+    stated : stated_by hs ≡ gives len
+    stated = rw p at e
+
+    pub too_long : 1048576 < len → rest_of b ≡ refused 9
+    too_long h = left ∙ rw (stated, lt-leb len 1048576 h)
+
+    -- by whether the block has the header SCGI
+    by-scgi : len ≤ 1048576 → (t : Bool) → has_scgi b ≡ gives t → rest_of b ≡ need t 10 (gives len)
+    by-scgi small t h =
+        let q : gives (has scgi1 hs) ≡ gives t = rw p at h in
+        let z : has scgi1 hs ≡ t = cc in
+        left ∙ rw (stated, le-leb len 1048576 small, z)
+
+    module _ (small : len ≤ 1048576) where
+      pub no-scgi : has_scgi b ≡ gives false → rest_of b ≡ refused 10
+      no-scgi = by-scgi small false
+
+      pub passes : has_scgi b ≡ gives true → rest_of b ≡ gives len
+      passes = by-scgi small true

@@ -3,7 +3,7 @@
 use Prim.{absurd}
 use Prim.Native.Nat.{ℕ, min, ◌+◌, ◌-◌, ◌≤◌, ◌<◌}
 use mathlib.Core.Path.{◌≡◌, refl, sym, ap, ◌∙◌}
-use mathlib.Core.Bool.{Bool, true, false, cond, false≢true}
+use mathlib.Core.Bool.{Bool, true, false, cond, ◌&&◌, false≢true}
 use mathlib.Core.List.{List}
 use native.Mathlib.Omega.{arith}
 use lib.Dec.{eqb, leb}
@@ -12,11 +12,11 @@ use lib.Seq.{take_all}
 use borrow.Author.Tests.{lt-ltb, le-ltb, le-leb, lt-leb, eq-eqb, ne_eqb, leb-true, leb-false}
 use Rattle.octets.specs.Outcome.{Outcome, refused, gives}
 use Rattle.octets.specs.Copy.{over}
-use Rattle.octets.proofs.Bools.{and-false}
+use Rattle.octets.proofs.Bools.{and_right, and-false}
 use Rattle.octets.proofs.Lists.{from}
 use Rattle.scgi.specs.Check.{check_block}
 use Rattle.scgi.specs.declared.netstring.Digits.{Digits}
-use Rattle.socket.specs.Socket.{in_block, in_body, at_end, at_fault, stage_of, stage_number, begun, new, faulted, moved, Fits, is_kept, soundly}
+use Rattle.socket.specs.Socket.{in_block, in_body, at_end, at_fault, stage_of, stage_number, begun, new, faulted, moved, Fits, limited, is_kept, sound_refusal, soundly}
 use Rattle.socket.specs.Socket.{at_more, step_at_fault, step_at_end, too_short, fed_body, fed_checked, fed_block, fed_by, fed_at, feed_of, fed_digits}
 use Rattle.socket.specs.declared.reader.Socket.{Socket}
 
@@ -134,6 +134,40 @@ fits-faulted k e =
       body = omega arith;
       seen = omega arith;
     }
+
+-- a state in no stage before the end, by its stage and its refusal
+module _ (s : Socket) where
+  pub no-stage : (s.stage ≡ 4 → ⊥) → sound_refusal s ≡ new
+  no-stage h = rw (ne_eqb s.stage 4 h)
+
+  module _ (q : s.stage ≡ 4) where
+    pub too_small : s.refusal < 2 → sound_refusal s ≡ new
+    too_small h = rw (eq-eqb s.stage 4 q, lt-leb 2 s.refusal h)
+
+    pub too_large : 10 < s.refusal → sound_refusal s ≡ new
+    too_large h = rw (eq-eqb s.stage 4 q, lt-leb s.refusal 10 h, and-false (leb 2 s.refusal))
+
+    pub kept : 2 ≤ s.refusal → s.refusal ≤ 10 → sound_refusal s ≡ faulted s.refusal
+    kept l h = rw (eq-eqb s.stage 4 q, le-leb 2 s.refusal l, le-leb s.refusal 10 h)
+
+-- a state that was brought within the limits
+pub fits-soundly : (s : Socket) → Fits (soundly s)
+fits-soundly s = by (leb s.stage 3)
+  where
+    numbers : Fits (limited s)
+    numbers =
+        record { refusal = omega arith; digits = omega arith; len = omega arith; stored = omega arith; body = omega arith; seen = omega arith }
+
+    refusals : (t : Bool) → eqb s.stage 4 && is_kept s.refusal ≡ t → Fits (cond t (faulted s.refusal) new)
+    refusals true e = fits-faulted s.refusal (and_right (eqb s.stage 4) (is_kept s.refusal) e)
+    refusals false e = fits-new
+
+    by : (t : Bool) → Fits (cond t (limited s) (sound_refusal s))
+    by true = numbers
+    by false = refusals (eqb s.stage 4 && is_kept s.refusal) refl
+
+pub fits_by : (s x : Socket) → x ≡ soundly s → Fits x
+fits_by s x e = rw e (fits-soundly s)
 
 -- a buffer that is too short, and one that is not
 module _ (s : Socket) (run buffer : List ℕ) where

@@ -1,11 +1,12 @@
 -- Writes one after the other.
 -- Assumes nothing.
-use Prim.Native.Nat.{ℕ}
+use Prim.Native.Nat.{ℕ, ◌+◌, ◌≤◌}
 use mathlib.Core.Path.{◌≡◌, refl, sym, ap, ◌∙◌}
 use mathlib.Core.List.{List, [], ◌∷◌, ◌++◌, append_assoc, append-nil}
 use native.Mathlib.Nat.{add-zero}
 use native.Mathlib.Omega.{arith}
 use lib.ListN.{length, length-append}
+use Rattle.octets.specs.Copy.{Wrote}
 use Rattle.octets.proofs.Copies
 use Rattle.octets.proofs.Copies.{length_over, over-nil}
 use Rattle.headers.specs.Block.{Header, printed}
@@ -14,15 +15,23 @@ use Rattle.variables.specs.declared.writer.Writer.{Writer}
 use Rattle.variables.specs.Writer.{Fits, Appended}
 use Rattle.variables.proofs.FixedVariables.{print-one, print-last}
 
--- nothing written, where the place is in the buffer
+-- nothing written
+pub wrote_none : (d : List ℕ) (at : ℕ) → Wrote d at [] d at
+wrote_none d at = record { ends = sym (add-zero at); holds = sym (over-nil d at) }
+
+-- .. where the place is in the buffer
 pub appended_none : (w : Writer) → Fits w [] → Appended w w []
 appended_none w h =
-    record { same_buffer = refl; room = h; wrote = record { ends = sym (add-zero w.at); holds = sym (over-nil w.out.now w.at) } }
+    record { same_buffer = refl; room = h; wrote = wrote_none w.out.now w.at }
+
+-- a write keeps the buffer's length
+pub wrote-length : {d : List ℕ} {at : ℕ} {w d' : List ℕ} {m : ℕ} → Wrote d at w d' m → at + length w ≤ length d → length d' ≡ length d
+wrote-length {d} {at} {w} x h = ap length x.holds ∙ length_over d at w h
 
 -- one write after another
 pub and_then : {w w' w'' : Writer} (p q : List ℕ) → Appended w w' p → Appended w' w'' q → Appended w w'' (p ++ q)
 and_then {w} {w'} p q x y =
-    let l : length w'.out.now ≡ length w.out.now = ap length x.wrote.holds ∙ length_over w.out.now w.at p x.room in
+    let l : length w'.out.now ≡ length w.out.now = wrote-length x.wrote x.room in
     record {
       same_buffer = y.same_buffer ∙ x.same_buffer;
       room = omega (arith, y.room, l, x.wrote.ends, length-append p q);
@@ -32,7 +41,7 @@ and_then {w} {w'} p q x y =
 -- the room that is left after a write
 pub room-left : {w w' : Writer} (p q : List ℕ) → Fits w (p ++ q) → Appended w w' p → Fits w' q
 room-left {w} {w'} p q h x =
-    let l : length w'.out.now ≡ length w.out.now = ap length x.wrote.holds ∙ length_over w.out.now w.at p x.room in
+    let l : length w'.out.now ≡ length w.out.now = wrote-length x.wrote x.room in
     omega (arith, h, l, x.wrote.ends, length-append p q)
 
 -- room for bytes is room for the first of them
