@@ -7,8 +7,7 @@ ghost use Rattle.request.specs.Named.{lowered, values_of};
 ghost use Rattle.request.specs.Request.{host_right, stated_by};
 ghost use Rattle.request.specs.Rules.{found_of, stated_outcome, rules_outcome, judged_of};
 
-use crate::stored::Fields;
-use octets::compare::same_letters;
+use crate::stored::{Fields, is_named};
 use octets::decimal;
 use octets::refusal::Refusal;
 use octets::span::Span;
@@ -31,7 +30,7 @@ pub fn named(fields: Fields, name: &[u8]) -> Found
         first: None,
     };
     for field in fields.places {
-        if same_letters(field.name.of(fields.head), name) {
+        if is_named(fields.head, field.name, name) {
             found = Found {
                 count: found.count + 1,
                 first: found.first.or(Some(field.value)),

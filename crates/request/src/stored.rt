@@ -1,11 +1,21 @@
 // The fields of a request, by their places in its head.
-ghost use Rattle.std.specs.Prelude.{◌≡◌, ◌<◌, length, get_or};
+ghost use Rattle.std.specs.Prelude.{◌≡◌, ◌+◌, ◌≤◌, ◌<◌, length, get_or, take, drop};
 ghost use Rattle.octets.specs.Lies.{LiesAt};
 ghost use Rattle.octets.specs.Compare.{same_letters};
 ghost use Rattle.http_head.specs.Fields.{field_at, nowhere, AllInside};
 
 use http_head::fields::Field;
-use octets::compare::same_letters;
+use octets::compare::equal_letters;
+use octets::span::Span;
+
+// Whether the name at a place is this one, letter case aside. A name of another length costs one comparison of two numbers, and none of its
+// bytes is read.
+pub(crate) fn is_named(head: &[u8], place: Span, name: &[u8]) -> bool
+    requires { place.start + place.len ≤ length head.now }
+    ensures { result ≡ same_letters (take place.len (drop place.start head.now)) name.now }
+{
+    place.len == name.len() && equal_letters(place.of(head), name)
+}
 
 // The fields of a request, each by its place in the head, in which all of them lie.
 #[derive(Clone, Copy)]
@@ -34,12 +44,11 @@ impl<'a> Fields<'a> {
         self.places[k].value.of(self.head)
     }
 
-    // Whether the field with number k has this name, letter case aside. A name of another length costs one comparison of two numbers, and
-    // none of its bytes is read.
+    // Whether the field with number k has this name, letter case aside.
     pub fn has_name(self, k: usize, name: &[u8]) -> bool
         requires { k < length self.places.now }
         ensures { result ≡ same_letters (field_at self.entry.head.now self.entry.places.now k).name name.now }
     {
-        same_letters(self.name(k), name)
+        is_named(self.head, self.places[k].name, name)
     }
 }
