@@ -238,7 +238,9 @@ impl Sound {
     }
 
     // The block, of which this is what the run has left, and the comma behind it. The buffer's length is required and is no array's, here
-    // and in the steps beside it: a longer buffer may be lent.
+    // and in the steps beside it: a longer buffer may be lent. In line at both callers: as a function of its own it hands the answer over
+    // in memory, and then so does every stage.
+    #[inline(always)]
     fn take_block(mut self, run: &[u8], block: &mut [u8]) -> Taken
         requires { 16384 ≤ length block.old }
         ensures { FedIn (fed_block self.state run.now block.old) block.new result }
