@@ -1,6 +1,6 @@
 -- The variables of a request's fields, one field after the other: what is still to be written from a field on.
 -- Assumes nothing.
-use Prim.Native.Nat.{ℕ, zero, suc, ◌+◌, ◌≤◌, ◌<◌}
+use Prim.Native.Nat.{ℕ, ◌+◌, ◌-◌, ◌≤◌, ◌<◌}
 use mathlib.Core.Path.{◌≡◌, refl, sym, ap, ◌∙◌}
 use mathlib.Core.Bool.{Bool, true, false, cond, not, ◌&&◌, ◌||◌}
 use mathlib.Core.List.{List, [], ◌∷◌, ◌++◌, map, append_assoc}
@@ -74,17 +74,13 @@ pub seen_next :
 unfolding is_in
 seen_next x head fs j = ap (is_in x) (names_more head fs j)
 
--- a name among some is among more
-pub seen_more : (x head : List ℕ) (fs : List Spans) (j d k : ℕ) → k ≡ j + d → is_in x (names_before head fs j) ≡ true → is_in x (names_before head fs k) ≡ true
-seen_more x head fs j zero k e h =
-    let z : k ≡ j = omega arith in
-    rw z h
-seen_more x head fs j (suc d) k e h =
-    seen_more x head fs (j + 1) d k (omega arith) (seen_next x head fs j ∙ rw h (or-true (same_bytes x (low_name head fs j))))
-  where
-    or-true : (t : Bool) → t || true ≡ true
-    or-true true = refl
-    or-true false = refl
+-- .. from the last on
+pub seen_down :
+    (x head : List ℕ) (fs : List Spans) (j : ℕ) → 0 < j
+    → is_in x (names_before head fs j) ≡ same_bytes x (low_name head fs (j - 1)) || is_in x (names_before head fs (j - 1))
+seen_down x head fs j h =
+    let z : j ≡ j - 1 + 1 = omega arith in
+    ap (λ (m : ℕ). is_in x (names_before head fs m)) z ∙ seen_next x head fs (j - 1)
 
 -- What later fields add to a value.
 

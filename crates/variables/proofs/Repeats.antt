@@ -1,20 +1,21 @@
 -- Fields no two of which have the same name: each one that is passed makes a variable of its own value alone.
 -- Assumes nothing.
 use Prim.Native.Nat.{ℕ, zero, suc, ◌+◌, ◌-◌, ◌<◌}
-use mathlib.Core.Path.{◌≡◌, refl, ap, ◌∙◌}
+use mathlib.Core.Path.{◌≡◌, refl, sym, ap, ◌∙◌}
 use mathlib.Core.Bool.{Bool, true, false, not, ◌&&◌, ◌||◌}
 use mathlib.Core.List.{List, [], append-nil}
 use native.Mathlib.Numerals.{add-one}
 use native.Mathlib.Omega.{arith}
 use lib.ListN.{length}
 use borrow.Author.Tests.{not-true, not-false}
+use Rattle.std.proofs.Common.{Option, None, Some}
 use Rattle.octets.specs.Compare.{same_bytes}
 use Rattle.octets.specs.Lists.{is_in, different}
 use Rattle.octets.proofs.Bools.{and_left, and_right}
 use Rattle.http_head.specs.Fields.{field_at}
 use Rattle.http_head.specs.declared.fields.Field.{Field as Spans}
 use Rattle.variables.specs.Fields.{not_passed, added_by}
-use Rattle.variables.specs.FieldVariables.{low_name, names_before, low_from, variable_from, variable_alone, variable_if, repeats}
+use Rattle.variables.specs.FieldVariables.{low_name, names_before, low_from, variable_from, variable_alone, variable_if, repeats, RepeatsFrom}
 use Rattle.variables.proofs.FieldVariables.{added_next, added-end}
 
 -- Whether names differ, one field after the other from the last on.
@@ -53,22 +54,28 @@ unlike-one x head ps n k h e = (neither k (fewer (λ m. is_in x (names_before he
         → (same_bytes x (low_name head ps m) ≡ false) × (is_in x (names_before head ps m) ≡ false)
     neither m q = or-neither (same_bytes x (low_name head ps m)) (is_in x (names_before head ps m)) q
 
--- Where the names of n fields differ.
+-- Where the names of the fields before number n differ, none of them stands before.
+pub new-before :
+    (head : List ℕ) (ps : List Spans) (n k : ℕ) → different (names_before head ps n) ≡ true → k < n
+    → is_in (low_name head ps k) (names_before head ps k) ≡ false
+unfolding different names_before
+new-before head ps n k d h = not-true (here k) (and_left (not (here k)) (different (names_before head ps k)) up_to)
+  where
+    here : ℕ → Bool
+    here m = is_in (low_name head ps m) (names_before head ps m)
+
+    up_to : different (names_before head ps (suc k)) ≡ true
+    up_to =
+        fewer (λ m. different (names_before head ps m) ≡ true) (λ m q. and_right (not (here m)) (different (names_before head ps m)) q) (n - suc k) n (suc k)
+        (omega arith)
+        d
+
+-- Where the names of all fields differ.
 
 module _ (head : List ℕ) (ps : List Spans) (d : different (names_before head ps (length ps)) ≡ true) where
   -- no field before has the name of the one with number k
   pub new-name : (k : ℕ) → k < length ps → is_in (low_name head ps k) (names_before head ps k) ≡ false
-  unfolding different names_before
-  new-name k h = not-true (here k) (and_left (not (here k)) (different (names_before head ps k)) up_to)
-    where
-      here : ℕ → Bool
-      here m = is_in (low_name head ps m) (names_before head ps m)
-
-      up_to : different (names_before head ps (suc k)) ≡ true
-      up_to =
-          fewer (λ m. different (names_before head ps m) ≡ true) (λ m q. and_right (not (here m)) (different (names_before head ps m)) q) (length ps - suc k) (length ps) (suc k)
-          (omega arith)
-          d
+  new-name k h = new-before head ps (length ps) k d h
 
   -- the m fields from number j on add nothing to the value of one before them
   none-added : (k m j : ℕ) → length ps ≡ j + m → k < j → added_by (low_from head ps j) (low_name head ps k) ≡ []
@@ -93,6 +100,16 @@ repeats-at head ps k h e = by (different (names_before head ps (length ps))) ref
         let z : is_in (low_name head ps k) (names_before head ps k) ≡ false = new-name head ps d k h in
         cc
     by false d = refl
+
+-- What the number says from which on names are looked for.
+
+pub none-twice : (head : List ℕ) (ps : List Spans) {r : Option ℕ} → RepeatsFrom head ps r → r ≡ None → repeats head ps ≡ false
+none-twice head ps h e = sym (rw e at h.0)
+
+pub new-up-to :
+    (head : List ℕ) (ps : List Spans) {r : Option ℕ} (n k : ℕ) → RepeatsFrom head ps r → r ≡ Some n → k < n
+    → is_in (low_name head ps k) (names_before head ps k) ≡ false
+new-up-to head ps n k h e l = new-before head ps n k (rw e at h.1) l
 
 -- where no name is there twice, a field that is passed makes a variable of its own value
 pub if-alone :

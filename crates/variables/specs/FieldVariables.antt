@@ -1,6 +1,6 @@
 -- What each of a request's fields adds to the variables, for code that goes from field to field.
 -- Assumes nothing.
-use Rattle.std.specs.Prelude.{ℕ, zero, suc, ◌+◌, Bool, not, ◌&&◌, List, [], ◌∷◌, ◌++◌, map, length, drop}
+use Rattle.std.specs.Prelude.{ℕ, zero, suc, ◌+◌, ◌<◌, ◌≡◌, Bool, true, not, ◌&&◌, List, [], ◌∷◌, ◌++◌, map, length, drop, Option, is_some, IfSome}
 use Rattle.octets.specs.Compare.{same_bytes, lower_of}
 use Rattle.octets.specs.Lists.{is_in, different}
 use Rattle.headers.specs.Block.{printed}
@@ -59,3 +59,11 @@ fields_bytes head fs = printed (map http_variable (grouped_of (fields_at head fs
 -- whether two names are the same
 abbrev pub repeats : List ℕ → List Spans → Bool
 repeats head fs = not (different (names_before head fs (length fs)))
+
+-- .. where r is some number if so, and the names of the fields before that number differ
+abbrev pub RepeatsFrom : List ℕ → List Spans → Option ℕ → Type 0
+RepeatsFrom head fs r = (is_some r ≡ repeats head fs) × IfSome r (λ k. different (names_before head fs k) ≡ true)
+
+-- the field with number k has the name of one before it
+abbrev pub RepeatAt : List ℕ → List Spans → ℕ → Type 0
+RepeatAt head fs k = (k < length fs) × (is_in (low_name head fs k) (names_before head fs k) ≡ true)

@@ -44,7 +44,7 @@ put_fields-requires c =
     let first = left-first (behind_content s) (block-parts s c.requires.0 c.args.size) (omega (arith, c.requires.1)) c.put_content.ensures in
     let second = left-more (behind_path s) refl first c.put_path.ensures in
     let third = left-more (behind_request s) refl second c.put_request.ensures in
-    (c.names_repeat-repeat.ensures, left-rest (left-more (behind_server s) refl third c.put_server.ensures))
+    (c.names_repeat-repeat.ensures.0, left-rest (left-more (behind_server s) refl third c.put_server.ensures))
 
 pub returns : goal.returns
 returns c =
