@@ -2,8 +2,11 @@
 -- Assumes nothing.
 use Prim.Native.Nat.{ℕ, min, ◌+◌, ◌-◌, ◌≤◌}
 use Prim.Native.String.{String}
+use Prim.{absurd}
+use denote.Bor.{Bor}
 use mathlib.Core.Path.{◌≡◌, refl, sym, ap, ◌∙◌}
 use mathlib.Core.List.{List, [], ◌∷◌, ◌++◌, append_assoc}
+use Rattle.std.specs.Prelude.{option_map, MatchOption, IsSomeAnd}
 use Rattle.std.proofs.Common.{Option, None, Some}
 use native.Mathlib.Omega.{arith}
 use lib.ListN.{length, take, drop, length-take, length-drop}
@@ -12,6 +15,7 @@ use Rattle.std.proofs.lemmas.List.{drop_min}
 use Rattle.octets.specs.Text.{bytes}
 use Rattle.octets.specs.Decimal.{decimal}
 use Rattle.headers.specs.Block.{Header, printed}
+use Rattle.lent.specs.declared.places.Auth.{Auth}
 use Rattle.targets.specs.Target.{query_of}
 use Rattle.variables.specs.Variables.{always, if_present, Rows, present}
 use Rattle.variables.specs.Put.{variable, optional}
@@ -59,6 +63,14 @@ pub if-last : (n : String) (o : Option (List ℕ)) → printed (present (if_pres
 unfolding printed
 if-last n None = refl
 if-last n (Some v) = print-last _
+
+-- The part that a closure found for a user's name and kind, where they are given: R is what is known of a call of it.
+
+module _ {R : Auth → Bor (List ℕ) → Type 0} (f : Option Auth → Option (List ℕ)) (none : f None ≡ None) (one : (a : Auth) (v : Bor (List ℕ)) → R a v → Some v.now ≡ f (Some a)) where
+  pub part-given : (o : Option Auth) (r : Option (Bor (List ℕ))) → MatchOption o (r ≡ None) (λ a. IsSomeAnd r (R a)) → option_map (λ v. v.now) r ≡ f o
+  part-given None r h = rw h (sym none)
+  part-given (Some a) None h = absurd h
+  part-given (Some a) (Some v) h = one a v h
 
 -- what `&s[k..n]` holds is the rest of `&s[..n]`
 pub rest-take : (s : List ℕ) (k n : ℕ) → k ≤ n → n ≤ length s → take (n - k) (drop k s) ≡ drop k (take n s)

@@ -1,10 +1,8 @@
 use Prim.Native.Nat.{ℕ}
-use mathlib.Core.Path.{◌≡◌, refl, ◌∙◌}
+use mathlib.Core.Path.{◌≡◌, refl, ap}
 use mathlib.Core.List.{List, [], ◌∷◌, ◌++◌}
 use Rattle.std.specs.Prelude.{option_map}
-use Rattle.std.proofs.Common.{Option, None, Some, rules}
-use Rattle.octets.specs.declared.span.Span.{Span}
-use Rattle.lent.specs.declared.places.Auth.{Auth}
+use Rattle.std.proofs.Common.{Some, rules}
 use Rattle.octets.specs.Text.{bytes}
 use Rattle.octets.specs.Decimal.{decimal}
 use Rattle.headers.specs.Block.{printed}
@@ -16,9 +14,9 @@ use Rattle.variables.specs.FixedVariables.{content_variables}
 use Rattle.variables.specs.Writer.{Appended}
 use Rattle.variables.specs.declared.writer.Writer.{Writer}
 use Rattle.variables.proofs.Writers.{Left, left-all, left-rest, left-room, left-more, left-last}
-use Rattle.variables.proofs.FixedVariables.{behind_digits, content-start, if-row, if-last}
+use Rattle.variables.proofs.FixedVariables.{behind_digits, content-start, if-row, if-last, part-given}
 use Rattle.variables.proofs.fixed_variables.put_content.Goals as goal
-use Rattle.variables.proofs.fixed_variables.put_content.Goals.{Start, After-part}
+use Rattle.variables.proofs.fixed_variables.put_content.Goals.{Start, After-map}
 
 -- the rows that may be none
 abbrev type_row : Start → Rows
@@ -51,14 +49,9 @@ module _ (s : Start) {w w' : Writer} where
   fourth : Rest s w (printed (present (others s))) → Appended w w' (kind s) → Rest s w' (printed (present (type_row s)))
   fourth r x = left-more _ (if-row "AUTH_TYPE" _ (type_row s)) r x
 
-named : (c : After-part) → option_map (λ v. v.now) c.part.result ≡ auth_type_of (auth_at c.args.s.now.facts.now c.args.s.now.settings.auth)
+named : (c : After-map) → option_map (λ v. v.now) c.map.result ≡ auth_type_of (auth_at c.args.s.now.facts.now c.args.s.now.settings.auth)
 named c =
-    let e : c.map.result ≡ option_map (λ (a : Auth). a.auth_type) c.args.s.now.settings.auth = search (rules, c.map.ensures.cases) in
-    c.part.ensures ∙ who c.args.s.now.settings.auth e
-  where
-    who : (o : Option Auth) {p : Option Span} → p ≡ option_map (λ a. a.auth_type) o → part_if c.args.s.now.facts.now p ≡ auth_type_of (auth_at c.args.s.now.facts.now o)
-    who None e = rw e refl
-    who (Some a) e = rw e refl
+    part-given (λ o. auth_type_of (auth_at c.args.s.now.facts.now o)) refl (λ a v k. ap Some (search rules)) c.args.s.now.settings.auth c.map.result c.map.ensures.cases
 
 pub text-requires : goal.text-requires
 text-requires c = left-room (bytes "CONTENT_LENGTH" ++ 0 ∷ []) _ refl (start (goal.at.text-requires c).Start)
@@ -74,18 +67,18 @@ text-requires-2 c =
 pub optional-requires : goal.optional-requires
 optional-requires c =
     let s = (goal.at.optional-requires c).Start in
-    rw (named (goal.at.optional-requires c).After-part)
+    rw (named (goal.at.optional-requires c).After-map)
     (left-room (kind s) _ (if-row "AUTH_TYPE" _ (type_row s)) (third s (second s (first s c.text.ensures) c.number.ensures) c.text-2.ensures))
 
 pub optional-requires-2 : goal.optional-requires-2
 optional-requires-2 c =
     let s = (goal.at.optional-requires-2 c).Start in
     let r = third s (second s (first s c.text.ensures) c.number.ensures) c.text-2.ensures in
-    rw (c.part-2.ensures, ← if-last "CONTENT_TYPE" _) (left-rest (fourth s r (rw (named (goal.at.optional-requires-2 c).After-part) at c.optional.ensures)))
+    rw (c.part.ensures, ← if-last "CONTENT_TYPE" _) (left-rest (fourth s r (rw (named (goal.at.optional-requires-2 c).After-map) at c.optional.ensures)))
 
 pub returns : goal.returns
 returns c =
     let s = (goal.at.returns c).Start in
     let r = third s (second s (first s c.text.ensures) c.number.ensures) c.text-2.ensures in
-    left-last (fourth s r (rw (named (goal.at.returns c).After-part) at c.optional.ensures))
-    (rw (if-last "CONTENT_TYPE" _) (rw c.part-2.ensures at c.optional-2.ensures))
+    left-last (fourth s r (rw (named (goal.at.returns c).After-map) at c.optional.ensures))
+    (rw (if-last "CONTENT_TYPE" _) (rw c.part.ensures at c.optional-2.ensures))

@@ -1,24 +1,22 @@
 use Prim.Native.Nat.{ℕ}
-use mathlib.Core.Path.{◌≡◌, refl, ◌∙◌}
+use mathlib.Core.Path.{◌≡◌, refl, ap}
 use mathlib.Core.List.{List, [], ◌∷◌}
 use Rattle.std.specs.Prelude.{option_map}
-use Rattle.std.proofs.Common.{Option, None, Some, rules}
-use Rattle.octets.specs.declared.span.Span.{Span}
-use Rattle.lent.specs.declared.places.Auth.{Auth}
+use Rattle.std.proofs.Common.{Some, rules}
 use lib.ListN.{take, drop}
 use Rattle.octets.specs.Text.{bytes}
 use Rattle.headers.specs.Block.{printed}
 use Rattle.lent.specs.Places.{auth_at}
-use Rattle.request.specs.RequestRead.{target_in, part_if}
+use Rattle.request.specs.RequestRead.{target_in}
 use Rattle.variables.specs.Put.{optional}
 use Rattle.variables.specs.Variables.{always, Rows, present, remote_user_of}
 use Rattle.variables.specs.FixedVariables.{request_variables}
 use Rattle.variables.specs.Writer.{Appended}
 use Rattle.variables.specs.declared.writer.Writer.{Writer}
 use Rattle.variables.proofs.Writers.{Left, left-all, left-room, left-more, row_room, row_more, row_last}
-use Rattle.variables.proofs.FixedVariables.{if-row}
+use Rattle.variables.proofs.FixedVariables.{if-row, part-given}
 use Rattle.variables.proofs.fixed_variables.put_request.Goals as goal
-use Rattle.variables.proofs.fixed_variables.put_request.Goals.{Start, After-part}
+use Rattle.variables.proofs.fixed_variables.put_request.Goals.{Start, After-map}
 
 -- the rows behind REMOTE_USER
 abbrev others : Start → Rows
@@ -40,31 +38,26 @@ start s = left-all _ _ s.requires.1
 first : (s : Start) {w : Writer} → Appended s.args.w.now w (user s) → Rest s w 0
 first s x = left-more _ (if-row "REMOTE_USER" _ (others s)) (start s) x
 
-named : (c : After-part) → option_map (λ v. v.now) c.part.result ≡ remote_user_of (auth_at c.args.s.now.facts.now c.args.s.now.settings.auth)
+named : (c : After-map) → option_map (λ v. v.now) c.map.result ≡ remote_user_of (auth_at c.args.s.now.facts.now c.args.s.now.settings.auth)
 named c =
-    let e : c.map.result ≡ option_map (λ (a : Auth). a.remote_user) c.args.s.now.settings.auth = search (rules, c.map.ensures.cases) in
-    c.part.ensures ∙ who c.args.s.now.settings.auth e
-  where
-    who : (o : Option Auth) {p : Option Span} → p ≡ option_map (λ a. a.remote_user) o → part_if c.args.s.now.facts.now p ≡ remote_user_of (auth_at c.args.s.now.facts.now o)
-    who None e = rw e refl
-    who (Some a) e = rw e refl
+    part-given (λ o. remote_user_of (auth_at c.args.s.now.facts.now o)) refl (λ a v k. ap Some (search rules)) c.args.s.now.settings.auth c.map.result c.map.ensures.cases
 
 pub optional-requires : goal.optional-requires
 optional-requires c =
     let s = (goal.at.optional-requires c).Start in
-    rw (named (goal.at.optional-requires c).After-part) (left-room (user s) _ (if-row "REMOTE_USER" _ (others s)) (start s))
+    rw (named (goal.at.optional-requires c).After-map) (left-room (user s) _ (if-row "REMOTE_USER" _ (others s)) (start s))
 
 pub variable-requires : goal.variable-requires
-variable-requires c = row_room _ _ (first (goal.at.variable-requires c).Start (rw (named (goal.at.variable-requires c).After-part) at c.optional.ensures))
+variable-requires c = row_room _ _ (first (goal.at.variable-requires c).Start (rw (named (goal.at.variable-requires c).After-map) at c.optional.ensures))
 
 pub variable-requires-2 : goal.variable-requires-2
 variable-requires-2 c =
     let s = (goal.at.variable-requires-2 c).Start in
-    let second : Rest s c.variable.new.self 1 = row_more _ _ (first s (rw (named (goal.at.variable-requires-2 c).After-part) at c.optional.ensures)) c.variable.ensures in
+    let second : Rest s c.variable.new.self 1 = row_more _ _ (first s (rw (named (goal.at.variable-requires-2 c).After-map) at c.optional.ensures)) c.variable.ensures in
     rw c.of.ensures.0 (row_room _ _ second)
 
 pub returns : goal.returns
 returns c =
     let s = (goal.at.returns c).Start in
-    let second : Rest s c.variable.new.self 1 = row_more _ _ (first s (rw (named (goal.at.returns c).After-part) at c.optional.ensures)) c.variable.ensures in
+    let second : Rest s c.variable.new.self 1 = row_more _ _ (first s (rw (named (goal.at.returns c).After-map) at c.optional.ensures)) c.variable.ensures in
     row_last _ second (rw c.of.ensures.0 at c.variable-2.ensures)
