@@ -1,6 +1,6 @@
 -- The variables of a request's fields, one field after the other: what is still to be written from a field on.
 -- Assumes nothing.
-use Prim.Native.Nat.{ℕ, ◌+◌, ◌-◌, ◌≤◌, ◌<◌}
+use Prim.Native.Nat.{ℕ, zero, suc, ◌+◌, ◌-◌, ◌≤◌, ◌<◌}
 use mathlib.Core.Path.{◌≡◌, refl, sym, ap, ◌∙◌}
 use mathlib.Core.Bool.{Bool, true, false, cond, not, ◌&&◌, ◌||◌}
 use mathlib.Core.List.{List, [], ◌∷◌, ◌++◌, map, append_assoc}
@@ -74,7 +74,19 @@ pub seen_next :
 unfolding is_in
 seen_next x head fs j = ap (is_in x) (names_more head fs j)
 
--- .. from the last on
+-- a name among some is among more
+pub seen_more : (x head : List ℕ) (fs : List Spans) (j d k : ℕ) → k ≡ j + d → is_in x (names_before head fs j) ≡ true → is_in x (names_before head fs k) ≡ true
+seen_more x head fs j zero k e h =
+    let z : k ≡ j = omega arith in
+    rw z h
+seen_more x head fs j (suc d) k e h =
+    seen_more x head fs (j + 1) d k (omega arith) (seen_next x head fs j ∙ rw h (or-true (same_bytes x (low_name head fs j))))
+  where
+    or-true : (t : Bool) → t || true ≡ true
+    or-true true = refl
+    or-true false = refl
+
+-- the same from the last on
 pub seen_down :
     (x head : List ℕ) (fs : List Spans) (j : ℕ) → 0 < j
     → is_in x (names_before head fs j) ≡ same_bytes x (low_name head fs (j - 1)) || is_in x (names_before head fs (j - 1))
