@@ -27,7 +27,9 @@ pub fn read_value(v: &[u8]) -> Option<Value>
             limit: 1048576,
         });
     }
-    let limit = decimal::read(&v[len + 1..])?; // a second `;` is no digit
+    let Some(limit) = decimal::read(&v[len + 1..]) else {
+        return None; // a second `;` is no digit
+    };
     if 1048576 < limit {
         return None;
     }

@@ -1,7 +1,6 @@
 use Prim.Native.Nat.{◌<◌}
 use mathlib.Core.Path.{sym}
 use native.Mathlib.Omega.{arith}
-use borrow.Author.Rules.{rules}
 use lib.ListN.{length}
 use Rattle.mounts.proofs.Values.{empty-pool, no-limit, inside, bad-number, above-limit, is-limit}
 use Rattle.mounts.proofs.value.read_value.Goals as goal
@@ -26,17 +25,15 @@ slice_bounds-read-count c = omega (arith, there c)
 pub slice_bounds-read-start : goal.slice_bounds-read-start
 slice_bounds-read-start c = omega (arith, there c)
 
-pub returns-in_err-limit : goal.returns-in_err-limit
-returns-in_err-limit c =
-    let n = c.in_err-limit.ensures in
-    rw (bad-number _ _ c.find-len.ensures c.if-len-eq0.false c.if-len-v.false (sym n)) (search rules)
+pub returns-in_default : goal.returns-in_default
+returns-in_default c = sym (bad-number _ _ c.find-len.ensures c.if-len-eq0.false c.if-len-v.false (sym c.in_default.ensures))
 
 pub returns-then-limit-gt1048576 : goal.returns-then-limit-gt1048576
 returns-then-limit-gt1048576 c =
-    let n = c.in_ok-limit.ensures in
+    let n = c.in-Some.ensures in
     sym (above-limit _ _ c.find-len.ensures c.if-len-eq0.false c.if-len-v.false _ (sym n) (omega (arith, c.if-limit-gt1048576.true)))
 
 pub returns : goal.returns
 returns c =
-    let n = c.in_ok-limit.ensures in
+    let n = c.in-Some.ensures in
     sym (is-limit _ _ c.find-len.ensures c.if-len-eq0.false c.if-len-v.false _ (sym n) (omega (arith, c.if-limit-gt1048576.false)))
