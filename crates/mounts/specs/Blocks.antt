@@ -1,9 +1,11 @@
 -- What every block is that the gateway is lent; and what the code's answer says of it and of the list for the places of its names.
 -- Assumes nothing.
-use Rattle.std.specs.Prelude.{ℕ, ◌≡◌, Bool, false, cond, ◌&&◌, List, leb, ltb, length, Option, None, Some, Result, Ok, Err}
+use Rattle.std.specs.Prelude.{ℕ, ◌≤◌, ◌≡◌, Bool, false, cond, ◌&&◌, List, leb, ltb, length, take, Option, None, Some, Result, Ok, Err}
 use Rattle.octets.specs.Outcome.{Outcome, refused, gives, then, need, given}
 use Rattle.octets.specs.Lists.{different}
+use Rattle.octets.specs.declared.span.Span.{Span}
 use Rattle.headers.specs.Block.{Header, names, headers_of, parsed}
+use Rattle.headers.specs.Names.{NamesIn}
 use Rattle.headers.specs.declared.names.Names.{Names}
 use Rattle.mounts.specs.declared.blocks.Unfit.{Unfit}
 use Rattle.mounts.specs.declared.blocks.Unfit.TheVariants.{Full, Breach}
@@ -36,7 +38,24 @@ lacks_room limit room block = leb (length block) limit && many_for room (headers
 abbrev pub stored_of : (limit room : ℕ) → List ℕ → Option (Outcome ℕ)
 stored_of limit room block = cond (lacks_room limit room block) None (Some (then (block_of limit block) (λ hs. gives (length hs))))
 
--- what the code's answer says
+-- what the code's answer says, which gives their count
+abbrev pub count_stored : Result ℕ Unfit → Option (Outcome ℕ)
+count_stored (Ok n) = Some (gives n)
+count_stored (Err Breach) = Some (refused 20)
+count_stored (Err Full) = None
+
+-- the front of the list has the places of all names of an accepted block
+abbrev pub AtFront : List ℕ → List Span → Result ℕ Unfit → Type 0
+AtFront block after (Ok n) = (n ≤ length after) × NamesIn block (take n after)
+AtFront block after (Err e) = Unit {0}
+
+-- what the code's answer and the caller's list say, which keeps its length
+pub record BlockStored (limit : ℕ) (block : List ℕ) (before after : List Span) (r : Result ℕ Unfit) : Type 0 where
+  pub answer : count_stored r ≡ stored_of limit (length before) block
+  pub size : length after ≡ length before
+  pub stored : AtFront block after r
+
+-- what the code's answer says where it gives the names
 abbrev pub storing_outcome : Result Names Unfit → Option (Outcome ℕ)
 storing_outcome (Ok names) = Some (gives (length names.places.now))
 storing_outcome (Err Breach) = Some (refused 20)

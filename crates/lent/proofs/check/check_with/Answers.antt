@@ -12,11 +12,11 @@ use Rattle.lent.proofs.check.check_with.Goals as goal
 room : (n : ℕ) (p : Span) → length (replicate n p) ≡ n
 room n p = simp length-replicate
 
-pub whole_as_slice-store_block : goal.whole_as_slice-store_block
-whole_as_slice-store_block g c = omega (arith, c.requires)
+pub whole_as_slice-block_names : goal.whole_as_slice-block_names
+whole_as_slice-block_names g c = omega (arith, c.requires)
 
-pub whole_as_slice-store_block-2 : goal.whole_as_slice-store_block-2
-whole_as_slice-store_block-2 g c = omega (arith, c.requires)
+pub whole_as_slice-block_names-2 : goal.whole_as_slice-block_names-2
+whole_as_slice-block_names-2 g c = omega (arith, c.requires)
 
 pub returns-in_err-facts_names : goal.returns-in_err-facts_names
 returns-in_err-facts_names g c =
