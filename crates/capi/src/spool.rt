@@ -1,21 +1,21 @@
 // Requests that stand end to end.
 ghost use Rattle.std.specs.Prelude.{◌≡◌};
-ghost use Rattle.scgi.specs.Spool.{ending_of, ending_refusal};
+ghost use Rattle.scgi.specs.Spool.{ending_of};
 ghost use Rattle.capi.specs.Spool.{ending_number, SpoolAnswered};
 
 use crate::answer::{give, refused};
 use octets::refusal::Refusal;
 use scgi::spool::{Ending, spool};
 
-// The number of an ending, and that of its refusal or 0.
-fn ending_numbers(ending: Ending) -> (u64, u64)
-    ensures { (result.0 ≡ ending_number (ending_of ending)) × (result.1 ≡ ending_refusal (ending_of ending)) }
+// The number of an ending.
+fn ending_number(ending: Ending) -> u64
+    ensures { result ≡ ending_number (ending_of ending) }
 {
     match ending {
-        Ending::Whole => (0, 0),
-        Ending::Cut => (1, 0),
-        Ending::Refused(why) => (2, refused(why)),
-        Ending::Full => (3, 0),
+        Ending::Whole => 0,
+        Ending::Cut => 1,
+        Ending::Refused(_) => 2,
+        Ending::Full => 3,
     }
 }
 
@@ -28,6 +28,7 @@ pub fn oy_spool(bytes: &[u8], lengths: &mut [u64], answer: &mut [u64]) -> u64
         return refused(Refusal::NoRoom);
     }
     let spooled = spool(bytes, lengths);
-    let (ending, refusal) = ending_numbers(spooled.ending);
+    let ending = ending_number(spooled.ending);
+    let refusal = u64::from(spooled.ending.number());
     give(answer, &[spooled.count as u64, ending, refusal])
 }

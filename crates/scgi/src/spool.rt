@@ -1,6 +1,6 @@
 // Requests that stand end to end.
 ghost use Rattle.std.specs.Prelude.{◌≡◌};
-ghost use Rattle.scgi.specs.Spool.{EndingBy, SpoolDone};
+ghost use Rattle.scgi.specs.Spool.{EndingBy, SpoolDone, ending_of, ending_refusal};
 
 use crate::read::read;
 use octets::refusal::Refusal;
@@ -12,6 +12,18 @@ pub enum Ending {
     Cut,
     Full,
     Refused(Refusal),
+}
+
+impl Ending {
+    // The number of the refusal; 0, which no refusal has, where there is none.
+    pub fn number(self) -> u8
+        ensures { result ≡ ending_refusal (ending_of self) }
+    {
+        match self {
+            Ending::Refused(refusal) => refusal.number(),
+            Ending::Whole | Ending::Cut | Ending::Full => 0,
+        }
+    }
 }
 
 // How a spool ends where the reader refuses.
