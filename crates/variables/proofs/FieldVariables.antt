@@ -74,6 +74,14 @@ pub seen_next :
 unfolding is_in
 seen_next x head fs j = ap (is_in x) (names_more head fs j)
 
+-- .. from the last on
+pub seen_down :
+    (x head : List ℕ) (fs : List Spans) (j : ℕ) → 0 < j
+    → is_in x (names_before head fs j) ≡ same_bytes x (low_name head fs (j - 1)) || is_in x (names_before head fs (j - 1))
+seen_down x head fs j h =
+    let z : j ≡ j - 1 + 1 = omega arith in
+    ap (λ (m : ℕ). is_in x (names_before head fs m)) z ∙ seen_next x head fs (j - 1)
+
 -- a name among some is among more
 pub seen_more : (x head : List ℕ) (fs : List Spans) (j d k : ℕ) → k ≡ j + d → is_in x (names_before head fs j) ≡ true → is_in x (names_before head fs k) ≡ true
 seen_more x head fs j zero k e h =
@@ -85,14 +93,6 @@ seen_more x head fs j (suc d) k e h =
     or-true : (t : Bool) → t || true ≡ true
     or-true true = refl
     or-true false = refl
-
--- the same from the last on
-pub seen_down :
-    (x head : List ℕ) (fs : List Spans) (j : ℕ) → 0 < j
-    → is_in x (names_before head fs j) ≡ same_bytes x (low_name head fs (j - 1)) || is_in x (names_before head fs (j - 1))
-seen_down x head fs j h =
-    let z : j ≡ j - 1 + 1 = omega arith in
-    ap (λ (m : ℕ). is_in x (names_before head fs m)) z ∙ seen_next x head fs (j - 1)
 
 -- What later fields add to a value.
 

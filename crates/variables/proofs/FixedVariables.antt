@@ -64,13 +64,16 @@ unfolding printed
 if-last n None = refl
 if-last n (Some v) = print-last _
 
--- The part that a closure found for a user's name and kind, where they are given: R is what is known of a call of it.
+-- What stands for a user's name or kind where they are given: a closure hands over the part v, whatever they are. R is what is known of a
+-- call of it.
 
-module _ {R : Auth → Bor (List ℕ) → Type 0} (f : Option Auth → Option (List ℕ)) (none : f None ≡ None) (one : (a : Auth) (v : Bor (List ℕ)) → R a v → Some v.now ≡ f (Some a)) where
-  pub part-given : (o : Option Auth) (r : Option (Bor (List ℕ))) → MatchOption o (r ≡ None) (λ a. IsSomeAnd r (R a)) → option_map (λ v. v.now) r ≡ f o
-  part-given None r h = rw h (sym none)
-  part-given (Some a) None h = absurd h
-  part-given (Some a) (Some v) h = one a v h
+module _ (x : Option Auth → List ℕ) (f : Option Auth → Option (List ℕ)) (none : f None ≡ None) (one : (a : Auth) → Some (x (Some a)) ≡ f (Some a)) where
+  pub part-given :
+      {R : Auth → Bor (List ℕ) → Type 0} (o : Option Auth) (r : Option (Bor (List ℕ))) (v : List ℕ) → v ≡ x o
+      → MatchOption o (r ≡ None) (λ a. IsSomeAnd r (R a)) → ((a : Auth) (b : Bor (List ℕ)) → R a b → b.now ≡ v) → option_map (λ b. b.now) r ≡ f o
+  part-given None r v e h is = rw h (sym none)
+  part-given (Some a) None v e h is = absurd h
+  part-given (Some a) (Some b) v e h is = ap Some (is a b h ∙ e) ∙ one a
 
 -- what `&s[k..n]` holds is the rest of `&s[..n]`
 pub rest-take : (s : List ℕ) (k n : ℕ) → k ≤ n → n ≤ length s → take (n - k) (drop k s) ≡ drop k (take n s)

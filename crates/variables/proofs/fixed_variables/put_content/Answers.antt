@@ -1,12 +1,12 @@
 use Prim.Native.Nat.{ℕ}
-use mathlib.Core.Path.{◌≡◌, refl, ap}
+use mathlib.Core.Path.{◌≡◌, refl}
 use mathlib.Core.List.{List, [], ◌∷◌, ◌++◌}
 use Rattle.std.specs.Prelude.{option_map}
-use Rattle.std.proofs.Common.{Some, rules}
+use Rattle.std.proofs.Common.{rules}
 use Rattle.octets.specs.Text.{bytes}
 use Rattle.octets.specs.Decimal.{decimal}
 use Rattle.headers.specs.Block.{printed}
-use Rattle.lent.specs.Places.{auth_at}
+use Rattle.lent.specs.Places.{auth_at, auth_type_at}
 use Rattle.request.specs.RequestRead.{part_if}
 use Rattle.variables.specs.Put.{optional}
 use Rattle.variables.specs.Variables.{if_present, Rows, present, auth_type_of}
@@ -51,7 +51,8 @@ module _ (s : Start) {w w' : Writer} where
 
 named : (c : After-map) → option_map (λ v. v.now) c.map.result ≡ auth_type_of (auth_at c.args.s.now.facts.now c.args.s.now.settings.auth)
 named c =
-    part-given (λ o. auth_type_of (auth_at c.args.s.now.facts.now o)) refl (λ a v k. ap Some (search rules)) c.args.s.now.settings.auth c.map.result c.map.ensures.cases
+    let a = c.args.s.now in
+    part-given (auth_type_at a.facts.now) (λ o. auth_type_of (auth_at a.facts.now o)) refl (λ a. refl) a.settings.auth c.map.result _ c.auth_type-kind.ensures.0 c.map.ensures.cases (λ a b k. search rules)
 
 pub text-requires : goal.text-requires
 text-requires c = left-room (bytes "CONTENT_LENGTH" ++ 0 ∷ []) _ refl (start (goal.at.text-requires c).Start)

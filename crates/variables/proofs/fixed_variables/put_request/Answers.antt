@@ -1,12 +1,12 @@
 use Prim.Native.Nat.{ℕ}
-use mathlib.Core.Path.{◌≡◌, refl, ap}
+use mathlib.Core.Path.{◌≡◌, refl}
 use mathlib.Core.List.{List, [], ◌∷◌}
 use Rattle.std.specs.Prelude.{option_map}
-use Rattle.std.proofs.Common.{Some, rules}
+use Rattle.std.proofs.Common.{rules}
 use lib.ListN.{take, drop}
 use Rattle.octets.specs.Text.{bytes}
 use Rattle.headers.specs.Block.{printed}
-use Rattle.lent.specs.Places.{auth_at}
+use Rattle.lent.specs.Places.{auth_at, remote_user_at}
 use Rattle.request.specs.RequestRead.{target_in}
 use Rattle.variables.specs.Put.{optional}
 use Rattle.variables.specs.Variables.{always, Rows, present, remote_user_of}
@@ -40,7 +40,8 @@ first s x = left-more _ (if-row "REMOTE_USER" _ (others s)) (start s) x
 
 named : (c : After-map) → option_map (λ v. v.now) c.map.result ≡ remote_user_of (auth_at c.args.s.now.facts.now c.args.s.now.settings.auth)
 named c =
-    part-given (λ o. remote_user_of (auth_at c.args.s.now.facts.now o)) refl (λ a v k. ap Some (search rules)) c.args.s.now.settings.auth c.map.result c.map.ensures.cases
+    let a = c.args.s.now in
+    part-given (remote_user_at a.facts.now) (λ o. remote_user_of (auth_at a.facts.now o)) refl (λ a. refl) a.settings.auth c.map.result _ c.remote_user-user.ensures.0 c.map.ensures.cases (λ a b k. search rules)
 
 pub optional-requires : goal.optional-requires
 optional-requires c =
