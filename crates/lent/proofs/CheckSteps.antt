@@ -20,7 +20,7 @@ use Rattle.octets.proofs.Refusals.{Refuses, with_number, not_refused, only-numbe
 use Rattle.headers.specs.Block.{Header, headers_of}
 use Rattle.headers.specs.Lookup.{value_in}
 use Rattle.headers.proofs.Claims.{headers-few, places-inside}
-use Rattle.mounts.specs.Blocks.{block_of, BlockGood, many_for, lacks_room, BlockFound}
+use Rattle.mounts.specs.Blocks.{block_of, stored_of, BlockGood, many_for, lacks_room, BlockFound}
 use Rattle.mounts.specs.Mounts.{Mount, mounts_of}
 use Rattle.mounts.proofs.Claims.{blocks-hold, blocks-told, mounts-number}
 use Rattle.lent.specs.Settings.{Settings, filled, or_in, sought, is_port, auth_of, settings_of}
@@ -155,15 +155,20 @@ done room facts site mounts (Ok p) f n q e = rw e f.answer.1
 done room facts site mounts (Err Breach) f n q e = rw e f.answer.1
 done room facts site mounts (Err Full) f n q e = absurd (n refl)
 
--- .. and the other way round, where both blocks were stored
-module _ (room : ℕ) (facts site mounts : List ℕ) (fn : Names) (ff : BlockFound 1024 room facts (Ok fn)) (sn : Names) (fs : BlockFound 1024 room site (Ok sn)) where
-  no-list-full : lacks_either room facts site ≡ false
-  no-list-full = by-site room facts site mounts fn ff ∙ (blocks-told.good 1024 room site _ fs.answer).0
+-- .. and the other way round, where both blocks are accepted and neither list is full
+module _
+    (room : ℕ) (facts site mounts : List ℕ) (k : ℕ) (e : Some (gives k) ≡ stored_of 1024 room facts)
+    (j : ℕ) (d : Some (gives j) ≡ stored_of 1024 room site)
+  where
+    no-list-full : lacks_either room facts site ≡ false
+    no-list-full =
+        let f = blocks-told.good 1024 room facts k e in
+        rw (f.0, f.1.accepted) (blocks-told.good 1024 room site j d).0
 
-  pub all-tried : (r : Result SettingPlaces Unfit) → (r ≡ Err Full → ⊥) → LentFound facts site mounts (refusal r) → LentTried room facts site mounts r
-  all-tried (Ok p) n l = record { answer = (no-list-full, l) }
-  all-tried (Err Breach) n l = record { answer = (no-list-full, l) }
-  all-tried (Err Full) n l = absurd (n refl)
+    pub all-tried : (r : Result SettingPlaces Unfit) → (r ≡ Err Full → ⊥) → LentFound facts site mounts (refusal r) → LentTried room facts site mounts r
+    all-tried (Ok p) n l = record { answer = (no-list-full, l) }
+    all-tried (Err Breach) n l = record { answer = (no-list-full, l) }
+    all-tried (Err Full) n l = absurd (n refl)
 
 -- Which number the answers have.
 
