@@ -47,7 +47,7 @@ pub fn value_end(s: &[u8], from: usize) -> usize
     run_end(Kind::Value, s, skip(s, from, is_value))
 }
 
-// The first place of b at or after from, or the length of s. For bytes that are sixteen places off and more; `find` of octets for nearer ones.
+// The first place of b at or after from, or the length of s. For bytes that are far off; `find_beyond` and `find_soon` for nearer ones.
 pub fn find_far(s: &[u8], from: usize, b: u8) -> usize
     requires { from ≤ length s.now }
     ensures { result ≡ from + run (other b) (drop from s.now) }

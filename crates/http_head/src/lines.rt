@@ -19,7 +19,8 @@ pub(crate) fn is_line_end(s: &[u8], i: usize) -> bool
     s.len() <= i || ends_line(s, i)
 }
 
-// The first CR LF of s at or after from, or the length of s. Goes from CR to CR, for speed; behind one that ends no line another may be near.
+// The first CR LF of s at or after from, or the length of s. Goes from CR to CR, for speed; behind one that ends no line the next may be
+// near.
 pub fn line_end(s: &[u8], from: usize) -> usize
     requires { from ≤ length s.now }
     ensures { result ≡ from + line_run (drop from s.now) }
